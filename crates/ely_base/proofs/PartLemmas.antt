@@ -1,0 +1,38 @@
+-- Cutting bytes at the first place of a byte.
+use Rattle.std.proofs.Common.{◌≡◌, ℕ, ◌+◌, ◌-◌, ◌<◌, ◌≤◌, Bool, true, false, List, [], ◌∷◌, ◌++◌, length, take, drop, get_or, Option, Some, None, refl, sym, ap, subst, ◌∙◌, arith, cond, eqb, ltb, position, take_all}
+use Rattle.std.proofs.lemmas.Bool.Decides.{nat_tests}
+use Rattle.std.proofs.lemmas.Option.{same_Some}
+use Rattle.std.proofs.lemmas.List.{take_rest}
+use Rattle.std.proofs.lemmas.List.Splits.{slice_split_none, slice_split_first, length-slice_split}
+use Rattle.std.proofs.lemmas.List.Sums.{fails_before_first}
+use Rattle.std.specs.List.{count_by, slice_split, position_or_len}
+use Rattle.ely_base.specs.Parts.{parts_at}
+
+-- the place that a search gave is the first one
+found_is : (b : Bool) (n place : ℕ) → cond b (Some n) None ≡ Some place → (b ≡ true) × (n ≡ place)
+found_is true n place h = (refl, same_Some n place h)
+found_is false n place h = absurd cc
+
+none_is : (b : Bool) (n : ℕ) → cond b (Some n) None ≡ None → b ≡ false
+none_is true n h = absurd cc
+none_is false n h = refl
+
+pub cut_none : (mark : ℕ) (bytes : List ℕ) → position (λ b. eqb b mark) bytes ≡ None → parts_at mark bytes ≡ bytes ∷ []
+cut_none mark bytes h =
+    let p : ℕ → Bool = λ b. eqb b mark in
+    let past = none_is (ltb (position_or_len p bytes) (length bytes)) (position_or_len p bytes) h in
+    slice_split_none p bytes (λ k d within. fails_before_first p bytes k d (grind (arith, nat_tests)))
+
+pub cut_some : (mark : ℕ) (bytes : List ℕ) (place : ℕ) → position (λ b. eqb b mark) bytes ≡ Some place → parts_at mark bytes ≡ take place bytes ∷ parts_at mark (take (length bytes - (place + 1)) (drop (place + 1) bytes))
+cut_some mark bytes place h =
+    let p : ℕ → Bool = λ b. eqb b mark in
+    let found = found_is (ltb (position_or_len p bytes) (length bytes)) (position_or_len p bytes) place h in
+    let within : position_or_len p bytes < length bytes = grind (arith, nat_tests) in
+    slice_split_first p bytes 0 within
+    ∙ (ap (λ n. take n bytes ∷ slice_split p (drop (n + 1) bytes)) found.1
+    ∙ ap (λ (rest : List ℕ). take place bytes ∷ slice_split p rest) (sym (take_rest bytes (place + 1))))
+
+-- one part more than places, counted up to a place past the end
+pub count_is : (mark count i : ℕ) (bytes : List ℕ) → length bytes ≤ i → count ≡ count_by (λ b. eqb b mark) (take i bytes) → count + 1 ≡ length (parts_at mark bytes)
+count_is mark count i bytes past h =
+    ap (λ n. n + 1) (h ∙ ap (count_by (λ b. eqb b mark)) (take_all i bytes past)) ∙ sym (length-slice_split (λ b. eqb b mark) bytes)

@@ -1,0 +1,28 @@
+use Rattle.std.proofs.Common.{◌≡◌, Some, sym, ap, ◌∙◌, refl}
+use Rattle.std.specs.Option.{option_map}
+use Rattle.ely_domain.specs.Contexts.{pinned, prepared_for}
+use Rattle.ely_script.specs.declared.outcome.Outcome.TheVariants as outcomes
+use Rattle.ely_domain.proofs.Pins.{past_of, authorized}
+use Rattle.std.proofs.lemmas.Option.{same_Some}
+use Rattle.ely_domain.proofs.granting.authorize.Goals as goal
+
+pub grants-requires : goal.grants-requires
+grants-requires c = past_of _ _ _ (c.in-Ok.ensures.sound c.args.edits.now c.requires).past c.in-Some.is
+
+pub prepared_for-requires : goal.prepared_for-requires
+prepared_for-requires c = past_of _ _ _ (c.in-Ok.ensures.sound c.args.edits.now c.requires).past c.in-Some.is
+
+pub returns-clause-ok : goal.returns-clause-ok
+returns-clause-ok c =
+    let found = c.in-Ok.ensures.found in
+    let granted = sym c.grants.ensures ∙ c.if-not-grants.false in
+    let moved = c.set_prepared.ensures.is _ found.is in
+    found.answers _ _ (authorized c.args.edits.now _ _ _ _ (pinned c.in-Some.pin) (ap (option_map pinned) c.in-Some.is) granted ∙ ap (λ live. (outcomes.Authorized, live)) (sym moved))
+
+pub returns-clause-sound : goal.returns-clause-sound
+returns-clause-sound c =
+    let found = c.in-Ok.ensures.found in
+    c.set_prepared.ensures.sound c.args.edits.now c.requires
+    (λ l is.
+    let same = same_Some _ _ (sym found.is ∙ is) in
+    rw (← same) (rw c.in-Some.is (ap Some c.in_ok-prepared.ensures)))

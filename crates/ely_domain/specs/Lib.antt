@@ -1,0 +1,10 @@
+pub mod Machine
+pub mod Contexts
+pub mod Found
+pub mod Domains
+pub mod Lines
+pub mod Histories
+pub mod Replays
+pub mod Legal
+pub mod Headline
+pub mod Pinnings

@@ -1,0 +1,73 @@
+-- HMAC, Hi and the keys of SCRAM as formulas on lists of bytes, over any hash function and the length of its block.
+use Rattle.std.specs.Prelude.{ℕ, zero, suc, ◌-◌, nat_le, List, [], ◌∷◌, ◌++◌, length, replicate, map, bit_xor, codes, if◌then◌else◌}
+
+-- ---- HMAC (RFC 2104 section 2)
+
+-- the key itself, or its digest where it is longer than a block
+abbrev pub short_key : (List ℕ → List ℕ) → ℕ → List ℕ → List ℕ
+short_key digest block key = if nat_le (length key) block then key else digest key
+
+-- K: the key with zeros after it, up to the length of a block
+abbrev pub block_key : (List ℕ → List ℕ) → ℕ → List ℕ → List ℕ
+block_key digest block key =
+    short_key digest block key ++ replicate (block - length (short_key digest block key)) 0
+
+-- the exclusive or of each byte and a pad
+abbrev pub xor_each : ℕ → List ℕ → List ℕ
+xor_each pad xs = map (λ x. bit_xor x pad) xs
+
+-- K xor ipad
+unfoldable pub inner_key : (List ℕ → List ℕ) → ℕ → List ℕ → List ℕ
+inner_key digest block key = xor_each 0x36 (block_key digest block key)
+
+-- K xor opad
+unfoldable pub outer_key : (List ℕ → List ℕ) → ℕ → List ℕ → List ℕ
+outer_key digest block key = xor_each 0x5c (block_key digest block key)
+
+-- HMAC is H (K xor opad, H (K xor ipad, text))
+unfoldable pub hmac_of : (List ℕ → List ℕ) → ℕ → List ℕ → List ℕ → List ℕ
+hmac_of digest block key text =
+    digest (outer_key digest block key ++ digest (inner_key digest block key ++ text))
+
+-- ---- Hi (RFC 5802 section 2.2)
+
+-- the exclusive or of two lists of one length
+unfoldable pub xor_lists : List ℕ → List ℕ → List ℕ
+xor_lists [] ys = []
+xor_lists (x ∷ xs) [] = []
+xor_lists (x ∷ xs) (y ∷ ys) = bit_xor x y ∷ xor_lists xs ys
+
+-- the exclusive or of all these lists
+unfoldable pub xor_all : List (List ℕ) → List ℕ
+xor_all [] = []
+xor_all (x ∷ []) = x
+xor_all (x ∷ y ∷ ys) = xor_lists x (xor_all (y ∷ ys))
+
+-- U1 is the code of the first text, and each further U is the code of the U before it; this is U (k + 1)
+unfoldable pub u_at : (List ℕ → List ℕ) → List ℕ → ℕ → List ℕ
+u_at mac first zero = mac first
+u_at mac first (suc k) = mac (u_at mac first k)
+
+-- the list of all U, from U1 to Un
+unfoldable pub us_to : (List ℕ → List ℕ) → List ℕ → ℕ → List (List ℕ)
+us_to mac first zero = []
+us_to mac first (suc n) = us_to mac first n ++ u_at mac first n ∷ []
+
+-- Hi is the exclusive or of all U, where U1 is the code of the salt and INT(1), which is 00 00 00 01
+unfoldable pub hi_of : (List ℕ → List ℕ) → ℕ → List ℕ → List ℕ → ℕ → List ℕ
+hi_of digest block password salt turns =
+    xor_all (us_to (hmac_of digest block password) (salt ++ 0 ∷ 0 ∷ 0 ∷ 1 ∷ []) turns)
+
+-- ---- the keys (RFC 5802 section 3)
+
+-- ClientKey is HMAC (SaltedPassword, "Client Key")
+abbrev pub client_key_of : (List ℕ → List ℕ) → ℕ → List ℕ → List ℕ
+client_key_of digest block salted = hmac_of digest block salted (codes "Client Key")
+
+-- StoredKey is H (ClientKey)
+abbrev pub stored_key_of : (List ℕ → List ℕ) → ℕ → List ℕ → List ℕ
+stored_key_of digest block salted = digest (client_key_of digest block salted)
+
+-- ServerKey is HMAC (SaltedPassword, "Server Key")
+abbrev pub server_key_of : (List ℕ → List ℕ) → ℕ → List ℕ → List ℕ
+server_key_of digest block salted = hmac_of digest block salted (codes "Server Key")

@@ -1,0 +1,172 @@
+//! The words of a line behind its verb, taken from left to right.
+
+ghost use Rattle.std.specs.Prelude.{◌≡◌, ◌-◌, ◌^◌, ◌≤◌, IfOk};
+ghost use Rattle.std.specs.Option.{option_map};
+ghost use Rattle.ely_base.specs.Refused.{Gives};
+ghost use Rattle.ely_script.specs.Reading.{first_of, last_of, none_of, one_of, two_of, five_of, number_at, ctx_at, coded_at, name_at};
+
+use crate::outcome::BadLine;
+use ely_base::{Bytes, CtxId, Name, Refused, cut_at, read_number, read_word};
+use std::alloc::Global;
+use std::marker::Model;
+
+impl From<BadLine> for Refused<BadLine> {
+    ghost use Rattle.std.specs.Prelude.{◌≡◌};
+    ghost use Rattle.ely_base.specs.declared.refused.Refused.TheVariants.{Fault};
+
+    ghost from_gives = { λ bad refused. refused ≡ Fault bad };
+
+    fn from(bad: BadLine) -> Refused<BadLine> {
+        Refused::Fault(bad)
+    }
+}
+
+/// A word of a line.
+#[derive(Drop)]
+pub(crate) struct Word<'a> {
+    pub(crate) bytes: &'a [u8],
+}
+
+impl<'a> Model for Word<'a> {
+    ghost use Rattle.std.specs.Prelude.{ℕ, List};
+
+    ghost Value = { List ℕ };
+
+    ghost view = { λ w. w.bytes.now };
+}
+
+/// The words that are left of a line: those of what stands behind a space.
+#[derive(Drop)]
+pub(crate) struct Args<'a> {
+    rest: Option<&'a [u8]>,
+}
+
+impl<'a> Model for Args<'a> {
+    ghost use Rattle.std.specs.Prelude.{ℕ, List};
+    ghost use Rattle.std.specs.Option.{option_map};
+    ghost use Rattle.ely_base.specs.Parts.{parts_left};
+
+    ghost Value = { List (List ℕ) };
+
+    ghost view = { λ a. parts_left 32 (option_map (λ rest. rest.now) a.rest) };
+}
+
+impl<'a> Args<'a> {
+    ghost use Rattle.ely_base.specs.Parts.{parts_left};
+
+    /// The words of what stands behind a space, where one stood.
+    pub(crate) fn of(rest: Option<&'a [u8]>) -> Args<'a>
+        ensures { result ≡ parts_left 32 (option_map (λ bytes. bytes.now) rest.entry) }
+    {
+        Args { rest }
+    }
+
+    /// The next word and those behind it.
+    pub(crate) fn first(self) -> Result<(Word<'a>, Args<'a>), BadLine>
+        ensures { result ≡ first_of self.entry }
+    {
+        match self.rest {
+            None => Err(BadLine::Arity),
+            Some(bytes) => {
+                let (word, rest) = cut_at(bytes, b' ');
+                Ok((Word { bytes: word }, Args { rest }))
+            }
+        }
+    }
+
+    /// That no word is left.
+    pub(crate) fn none(self) -> Result<(), BadLine>
+        ensures { result ≡ none_of self.entry }
+    {
+        match self.first() {
+            Ok(_) => Err(BadLine::Arity),
+            Err(_) => Ok(()),
+        }
+    }
+
+    /// The last word, where one is left.
+    pub(crate) fn last(self) -> Result<Option<Word<'a>>, BadLine>
+        ensures { result ≡ last_of self.entry }
+    {
+        match self.first() {
+            Err(_) => Ok(None),
+            Ok((word, rest)) => {
+                rest.none()?;
+                Ok(Some(word))
+            }
+        }
+    }
+
+    /// Exactly one word.
+    pub(crate) fn one(self) -> Result<Word<'a>, BadLine>
+        ensures { result ≡ one_of self.entry }
+    {
+        let (word, rest) = self.first()?;
+        rest.none()?;
+        Ok(word)
+    }
+
+    /// Exactly two words.
+    pub(crate) fn two(self) -> Result<(Word<'a>, Word<'a>), BadLine>
+        ensures { result ≡ two_of self.entry }
+    {
+        let (first, rest) = self.first()?;
+        let second = rest.one()?;
+        Ok((first, second))
+    }
+
+    /// Exactly five words.
+    pub(crate) fn five(self) -> Result<(Word<'a>, Word<'a>, Word<'a>, Word<'a>, Word<'a>), BadLine>
+        ensures { result ≡ five_of self.entry }
+    {
+        let (first, rest) = self.first()?;
+        let (second, rest) = rest.first()?;
+        let (third, rest) = rest.first()?;
+        let (fourth, fifth) = rest.two()?;
+        Ok((first, second, third, fourth, fifth))
+    }
+}
+
+impl Word<'_> {
+    /// The number up to `max` that the word at this place is.
+    pub(crate) fn number(&self, max: u64, place: u32) -> Result<u64, BadLine>
+        ensures value { result ≡ number_at max place self.now }
+        ensures within { IfOk result (λ n. n ≤ max) }
+    {
+        match read_number(self.bytes, max) {
+            Some(number) => Ok(number),
+            None => Err(BadLine::Number(place)),
+        }
+    }
+
+    /// The login that the word at this place names.
+    pub(crate) fn ctx(&self, place: u32) -> Result<CtxId, BadLine>
+        ensures { result ≡ ctx_at place self.now }
+    {
+        let number = self.number(u64::from(u32::MAX), place)?;
+        Ok(CtxId(number as u32))
+    }
+
+    /// The bytes that the coded word at this place stands for.
+    pub(crate) fn coded(&self, alloc: Global, place: u32) -> Result<Bytes, Refused<BadLine>>
+        ensures { Gives result (coded_at place self.now) }
+    {
+        match read_word(alloc, self.bytes) {
+            Ok(bytes) => Ok(bytes),
+            Err(Refused::NoMemory) => Err(Refused::NoMemory),
+            Err(Refused::Fault(_)) => Err(Refused::Fault(BadLine::Word(place))),
+        }
+    }
+
+    /// The name that the coded word at this place stands for.
+    pub(crate) fn name(&self, alloc: Global, place: u32) -> Result<Name, Refused<BadLine>>
+        ensures { Gives result (name_at place self.now) }
+    {
+        let bytes = self.coded(alloc, place)?;
+        match Name::read(alloc, bytes.bytes()) {
+            Ok(name) => Ok(name),
+            Err(Refused::NoMemory) => Err(Refused::NoMemory),
+            Err(Refused::Fault(_)) => Err(Refused::Fault(BadLine::Word(place))),
+        }
+    }
+}

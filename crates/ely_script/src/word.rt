@@ -1,0 +1,156 @@
+//! The words of steps, states and cache answers, as they are printed.
+
+ghost use Rattle.std.specs.Prelude.{◌≡◌};
+ghost use Rattle.ely_script.specs.Words.{state_number, same_state};
+ghost use Rattle.ely_script.specs.Text.{step_text, state_text, cache_text, mech_text};
+
+use ely_row::Mech;
+
+/// The word of a step.
+#[derive(Clone, Copy, Debug, PartialEq, Eq)]
+pub enum StepWord {
+    BadLine,
+    Add,
+    Remove,
+    SetCred,
+    DropCred,
+    SetAttr,
+    DropAttr,
+    Reload,
+    Begin,
+    Name1,
+    Name2,
+    Check1,
+    Check2,
+    Authorize,
+    Allows,
+    Succeed,
+    Fail,
+    Close,
+}
+
+/// The state of a login.
+#[derive(Clone, Copy, Debug, PartialEq, Eq)]
+pub enum StateWord {
+    Absent,
+    Fresh,
+    Loading,
+    Named,
+    Checking,
+    Proved,
+    Authorized,
+    Complete,
+    Failed,
+}
+
+/// What a cache had to do with a naming. `None` is no word.
+#[derive(Clone, Copy, Debug, PartialEq, Eq)]
+pub enum CacheWord {
+    None,
+    Dash,
+    Hit,
+    Miss,
+    Kept,
+    Late,
+    Unkept,
+}
+
+impl StepWord {
+    /// The word as it is printed.
+    pub fn text(self) -> &'static [u8]
+        ensures { result.now ≡ step_text self }
+    {
+        match self {
+            StepWord::BadLine => b"bad-line",
+            StepWord::Add => b"add",
+            StepWord::Remove => b"remove",
+            StepWord::SetCred => b"set-cred",
+            StepWord::DropCred => b"drop-cred",
+            StepWord::SetAttr => b"set-attr",
+            StepWord::DropAttr => b"drop-attr",
+            StepWord::Reload => b"reload",
+            StepWord::Begin => b"open",
+            StepWord::Name1 => b"name1",
+            StepWord::Name2 => b"name2",
+            StepWord::Check1 => b"check1",
+            StepWord::Check2 => b"check2",
+            StepWord::Authorize => b"authorize",
+            StepWord::Allows => b"allows",
+            StepWord::Succeed => b"succeed",
+            StepWord::Fail => b"fail",
+            StepWord::Close => b"close",
+        }
+    }
+}
+
+impl StateWord {
+    fn number(self) -> u8
+        ensures { result ≡ state_number self }
+    {
+        match self {
+            StateWord::Absent => 0,
+            StateWord::Fresh => 1,
+            StateWord::Loading => 2,
+            StateWord::Named => 3,
+            StateWord::Checking => 4,
+            StateWord::Proved => 5,
+            StateWord::Authorized => 6,
+            StateWord::Complete => 7,
+            StateWord::Failed => 8,
+        }
+    }
+
+    /// Whether both are the same state.
+    pub fn is(self, other: StateWord) -> bool
+        ensures { result ≡ same_state self other }
+    {
+        self.number() == other.number()
+    }
+
+    /// The word as it is printed.
+    pub fn text(self) -> &'static [u8]
+        ensures { result.now ≡ state_text self }
+    {
+        match self {
+            StateWord::Absent => b"absent",
+            StateWord::Fresh => b"fresh",
+            StateWord::Loading => b"loading",
+            StateWord::Named => b"named",
+            StateWord::Checking => b"checking",
+            StateWord::Proved => b"proved",
+            StateWord::Authorized => b"authorized",
+            StateWord::Complete => b"complete",
+            StateWord::Failed => b"failed",
+        }
+    }
+}
+
+impl CacheWord {
+    /// What is printed behind the outcome: a space and the word, or nothing.
+    pub fn text(self) -> &'static [u8]
+        ensures { result.now ≡ cache_text self }
+    {
+        match self {
+            CacheWord::None => b"",
+            CacheWord::Dash => b" -",
+            CacheWord::Hit => b" hit",
+            CacheWord::Miss => b" miss",
+            CacheWord::Kept => b" kept",
+            CacheWord::Late => b" late",
+            CacheWord::Unkept => b" unkept",
+        }
+    }
+}
+
+/// The word of a mechanism as it is printed.
+pub fn mech_word(mech: Mech) -> &'static [u8]
+    ensures { result.now ≡ mech_text mech }
+{
+    match mech {
+        Mech::Plain => b"PLAIN",
+        Mech::ScramSha1 => b"SCRAM-SHA-1",
+        Mech::ScramSha256 => b"SCRAM-SHA-256",
+        Mech::Digest => b"DIGEST",
+        Mech::DigestSha256 => b"DIGEST-SHA-256",
+    }
+}
