@@ -1,20 +1,18 @@
--- What a replay writes.
-use Rattle.std.specs.Prelude.{ℕ, ◌≡◌, List, ◌++◌, map}
+-- What the printed history of a script is.
+use Rattle.std.specs.Prelude.{◌≡◌, List}
+use Rattle.ely_script.specs.Reading.{Line}
 use Rattle.ely_domain.specs.Machine.{Given}
 use Rattle.ely_domain.specs.Histories.{IsEstablishedWhereReady}
 use Rattle.ely_domain.specs.Pinnings.{IsEstablishedAsPinned}
-use Rattle.ely_script.specs.Reading.{Line}
-use Rattle.ely_domain.specs.Replays.{Made, entry_of, steps_of, replayed}
-use Rattle.ely_domain.specs.Legal.{IsWhole}
-use Rattle.ely_script.specs.Text.{text}
+use Rattle.ely_domain.specs.Replays.{Made, steps_of, replayed}
+use Rattle.ely_domain.specs.Legal.{IsWhole, IsInFileOrder}
 
--- What is written is the text of the history of these lines in file order. It is whole: each line's steps stand in it once and in their order,
--- and each outcome is the machine's at that point. So a login is established exactly where it is ready to succeed,
--- with the version and the place that its last naming pinned, and the roles of that version.
-pub record Prints (given : Given) (lines : List Line) (old new : List ℕ) : Type 0 where
-  pub history : List Made
-  pub in_file_order : history ≡ replayed given lines
-  pub whole : IsWhole given lines history
-  pub established : IsEstablishedWhereReady (steps_of history)
-  pub pinned : IsEstablishedAsPinned given (steps_of history)
-  pub written : new ≡ old ++ text (map entry_of history)
+-- The history of these lines in file order: each line's steps stand in it once and in their order, before those of each later line, and each
+-- outcome is the machine's at that point. So a login is established exactly where it is ready to succeed, with the version and the place that its
+-- last naming pinned, and the roles of that version. The lines fix it.
+pub record IsHistoryOf (given : Given) (lines : List Line) (h : List Made) : Type 0 where
+  pub whole : IsWhole given lines h
+  pub in_file_order : IsInFileOrder lines h
+  pub established : IsEstablishedWhereReady (steps_of h)
+  pub pinned : IsEstablishedAsPinned given (steps_of h)
+  pub fixed : h ≡ replayed given lines

@@ -15,5 +15,5 @@ mod row;
 
 pub use domain::{Domain, JOURNAL_LIMIT};
 pub use event::{Answer, Event};
-pub use laws::{established_as_pinned, established_exactly_where, replay_is_whole};
+pub use laws::{established_as_pinned, established_exactly_where, replay_is_history};
 pub use line::{actor_of, event_of, words_of};

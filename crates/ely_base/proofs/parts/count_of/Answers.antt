@@ -1,4 +1,3 @@
-
 use Rattle.ely_base.proofs.PartLemmas.{count_is}
 use Rattle.ely_base.proofs.parts.count_of.Goals as goal
 

@@ -1,0 +1,9 @@
+pub mod QuoteLemmas
+pub mod MemberLemmas
+pub mod TableLemmas
+pub mod CountLemmas
+pub mod GrammarLemmas
+pub mod SoundLemmas
+pub mod FaultLemmas
+pub mod HeaderLemmas
+pub mod Rows
