@@ -1,0 +1,7 @@
+pub mod EscapeLemmas
+pub mod FieldLemmas
+pub mod Base64Lemmas
+pub mod TextLemmas
+pub mod GrammarLemmas
+pub mod FirstGrammar
+pub mod LastGrammar

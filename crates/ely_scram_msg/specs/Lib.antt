@@ -1,0 +1,10 @@
+pub mod Placed
+pub mod Fields
+pub mod Saslnames
+pub mod Nonces
+pub mod Extensions
+pub mod Base64Texts
+pub mod ClientFirst
+pub mod ClientLast
+pub mod Grammar
+pub mod ServerTexts
