@@ -1,0 +1,5 @@
+pub mod Lines
+pub mod Afters
+pub mod Said
+pub mod Firsts
+pub mod Complete

@@ -1,0 +1,12 @@
+use Rattle.std.proofs.Common.{◌≡◌, ◌<◌, ◌-◌, ◌^◌, ◌∷◌, List, drop}
+use Rattle.ely_script.specs.declared.word.StepWord.{StepWord}
+use Rattle.ely_domain.specs.Lines.{ran, actor_of, words_of, number_of}
+use Rattle.ely_front.proofs.Lines.{IsSoFar, HasRoom}
+use Rattle.ely_front.proofs.line.run_line.Given as goal
+
+abbrev pub invariant-loop-word : goal.invariant-loop-word
+invariant-loop-word l =
+    IsSoFar l.fn.domain.given l.fn.domain.machine l.line (actor_of l.line) (ran l.fn.domain.given l.fn.domain.machine l.line) l.entries.items l.domain.machine (number_of l.carried) (drop l.word-index l.word-items)
+    × (l.domain.given ≡ l.fn.domain.given)
+    × HasRoom l.domain.machine (drop l.word-index l.word-items)
+    × (l.word-items ≡ words_of l.line)
