@@ -56,7 +56,11 @@ by_event given m c s (events.Change edit) fits word on = no_edit edit word
   where
     no_edit : (edit : Edit) → edit_word edit ≡ words.Succeed → is_established (step given m (events.Change edit)).0 ≡ is_ready_since s
     no_edit (edits.Add realm name) h = cc
+    no_edit (edits.Remove realm name) h = cc
     no_edit (edits.SetCred realm name slot cred) h = cc
+    no_edit (edits.DropCred realm name slot) h = cc
+    no_edit (edits.SetAttr realm name attr values) h = cc
+    no_edit (edits.DropAttr realm name attr) h = cc
 by_event given m c s (events.Begin d mech opening) fits word on = cc
 by_event given m c s (events.Name1 d claim) fits word on = cc
 by_event given m c s (events.Name2 d serial) fits word on = cc
@@ -64,6 +68,8 @@ by_event given m c s (events.Check1 d serial evidence) fits word on = cc
 by_event given m c s (events.Check2 d serial) fits word on = cc
 by_event given m c s (events.Authorize d) fits word on = cc
 by_event given m c s (events.Allows d wanted) fits word on = cc
+by_event given m c s (events.Fail d) fits word on = cc
+by_event given m c s (events.Close d) fits word on = cc
 
 pub established_where_ready : (given : Given) (h : List Taken) → IsRun given first_machine h → IsEstablishedWhereReady h
 unfolding is_ready
@@ -107,7 +113,11 @@ pin_by_event given m c version place found p (events.Succeed d) fits word on h =
     of_succeed m.edits m.live c version place found p fits (rw same at h)
 pin_by_event given m c version place found p (events.Bad bad) fits word on h = cc
 pin_by_event given m c version place found p (events.Change (edits.Add realm name)) fits word on h = cc
+pin_by_event given m c version place found p (events.Change (edits.Remove realm name)) fits word on h = cc
 pin_by_event given m c version place found p (events.Change (edits.SetCred realm name slot cred)) fits word on h = cc
+pin_by_event given m c version place found p (events.Change (edits.DropCred realm name slot)) fits word on h = cc
+pin_by_event given m c version place found p (events.Change (edits.SetAttr realm name attr values)) fits word on h = cc
+pin_by_event given m c version place found p (events.Change (edits.DropAttr realm name attr)) fits word on h = cc
 pin_by_event given m c version place found p (events.Begin d mech opening) fits word on h = cc
 pin_by_event given m c version place found p (events.Name1 d claim) fits word on h = cc
 pin_by_event given m c version place found p (events.Name2 d serial) fits word on h = cc
@@ -115,6 +125,8 @@ pin_by_event given m c version place found p (events.Check1 d serial evidence) f
 pin_by_event given m c version place found p (events.Check2 d serial) fits word on h = cc
 pin_by_event given m c version place found p (events.Authorize d) fits word on h = cc
 pin_by_event given m c version place found p (events.Allows d wanted) fits word on h = cc
+pin_by_event given m c version place found p (events.Fail d) fits word on h = cc
+pin_by_event given m c version place found p (events.Close d) fits word on h = cc
 
 pub established_as_pinned : (given : Given) (h : List Taken) → IsRun given first_machine h → IsEstablishedAsPinned given h
 established_as_pinned given h run front t back c version place found is word on outcome =

@@ -13,14 +13,14 @@ use Rattle.ely_script.specs.declared.claim.Evidence.{Evidence}
 use Rattle.ely_script.specs.declared.outcome.Outcome.{Outcome}
 use Rattle.ely_script.specs.declared.outcome.Outcome.TheVariants as outcomes
 use Rattle.ely_script.specs.declared.word.StateWord.TheVariants as states
-use Rattle.ely_domain.specs.Machine.{Given, Machine, Login, Pinned, Answered, login_of, with_login, when_pinned, moved, checking, ident, ready_at, naming_fault, name2, is_carried, checked_first, check1, verdict, check2, grants, authorize, allows, roles, succeed, begin, changed, step, name1, named_unless, loading, place_of}
+use Rattle.ely_domain.specs.Machine.{Given, Machine, Login, Pinned, Answered, login_of, with_login, when_pinned, moved, checking, ident, ready_at, naming_fault, name2, is_carried, checked_first, check1, verdict, check2, grants, authorize, allows, roles, succeed, begin, changed, step, name1, named_unless, loading, place_of, is_other, can_fail, failed_by, fail, closed_by, close, without_login}
 use Rattle.ely_row.specs.Rows.{fault}
 use Rattle.ely_domain.specs.Lines.{Taken}
 use Rattle.ely_domain.specs.Histories.{IsRun, machine_after}
 use Rattle.ely_row.specs.declared.edit.EditFault.{EditFault}
 use Rattle.ely_domain.specs.declared.event.Event.{Event}
 use Rattle.ely_domain.specs.Pinnings.{pinned_by, pin_after}
-use Rattle.ely_domain.proofs.Readiness.{with_login_same, with_login_other, in_state_cases, carried_cases, login_of_push_same, login_of_push_other}
+use Rattle.ely_domain.proofs.Readiness.{with_login_same, with_login_other, in_state_cases, carried_cases, login_of_push_same, login_of_push_other, without_same, without_other}
 
 abbrev pub FitsPin : Option Pinned → Option (ℕ × Place) → Type 0
 FitsPin None p = Unit {0}
@@ -111,12 +111,41 @@ module _ (live : List (ℕ × Login)) (c d : ℕ) (p : Option (ℕ × Place)) (f
 
   name1_pin : (edits : List Edit) (x : CtxId) (claim : Claim) → (let r = name1 edits live d claim in PinFits (login_of r.1 c) (cond (eqb d c) (option_or (pinned_by (events.Name1 x claim) r.0) p) p))
   name1_pin edits x claim = in_state_cases (λ r. PinFits (login_of r.1 c) (cond (eqb d c) (option_or (pinned_by (events.Name1 x claim) r.0) p) p)) live d states.Fresh _ (λ w. stays live c p (eqb d c) fits)
-      (λ l is same. by_fault l is (naming_fault edits (length edits) (place_of claim)) refl)
+      (λ l is same. by_other l is (is_other claim))
     where
       by_fault : (l : Login) → login_of live d ≡ Some l → (f : Option Outcome) → naming_fault edits (length edits) (place_of claim) ≡ f
           → PinFits (login_of (named_unless edits live d claim l f).1 c) (cond (eqb d c) (option_or (pinned_by (events.Name1 x claim) (named_unless edits live d claim l f).0) p) p)
       by_fault l is None e = after_pin live c d p (Some (length edits, place_of claim)) l (loading l (length edits) claim) fits is (λ f. refl)
       by_fault l is (Some fault) e = rw (fault_pins_nothing edits (length edits) (place_of claim) fault x claim e) (stays live c p (eqb d c) fits)
+
+      by_other : (l : Login) → login_of live d ≡ Some l → (b : Bool)
+          → (let r = cond {A = Answered} b (outcomes.Authzid, live) (named_unless edits live d claim l (naming_fault edits (length edits) (place_of claim))) in PinFits (login_of r.1 c) (cond (eqb d c) (option_or (pinned_by (events.Name1 x claim) r.0) p) p))
+      by_other l is true = stays live c p (eqb d c) fits
+      by_other l is false = by_fault l is (naming_fault edits (length edits) (place_of claim)) refl
+
+  fail_pin : KeepsPin c d p (fail live d)
+  unfolding fail
+  fail_pin = by_login (login_of live d) refl
+    where
+      by_login : (o : Option Login) → login_of live d ≡ o → KeepsPin c d p (failed_by live d o)
+      by_login None is = stays live c p (eqb d c) fits
+      by_login (Some l) is = by_test (can_fail l.state)
+        where
+          by_test : (b : Bool) → KeepsPin c d p (cond b (outcomes.Fine, with_login live d (moved l states.Failed)) (outcomes.State l.state, live))
+          by_test true = move l (moved l states.Failed) refl is
+          by_test false = stays live c p (eqb d c) fits
+
+  close_pin : KeepsPin c d p (close live d)
+  unfolding close
+  close_pin = by_login (login_of live d) refl
+    where
+      by_login : (o : Option Login) → login_of live d ≡ o → KeepsPin c d p (closed_by live d o)
+      by_login None is = stays live c p (eqb d c) fits
+      by_login (Some l) is = by_id (eqb d c) refl
+        where
+          by_id : (b : Bool) → eqb d c ≡ b → PinFits (login_of (without_login live d) c) (cond b p p)
+          by_id true e = rw (← eqb-true d c e) (rw (without_same live d) tt)
+          by_id false e = rw (without_other live c d e) fits
 
 begin_pin : (m : Machine) (c d : ℕ) (p : Option (ℕ × Place)) → PinFits (login_of m.live c) p → PinFits (login_of (begin m d).1.live c) (cond (eqb d c) p p)
 begin_pin m c d p fits = by_tests (is_some (login_of m.live d)) (leb 4096 (length m.live)) refl
@@ -146,6 +175,8 @@ step_pin given m c p (events.Check2 d serial) fits = check2_pin m.live c d.0 p f
 step_pin given m c p (events.Authorize d) fits = authorize_pin m.live c d.0 p fits m.edits
 step_pin given m c p (events.Allows d wanted) fits = allows_pin m.live c d.0 p fits m.edits wanted
 step_pin given m c p (events.Succeed d) fits = succeed_pin m.live c d.0 p fits m.edits
+step_pin given m c p (events.Fail d) fits = fail_pin m.live c d.0 p fits
+step_pin given m c p (events.Close d) fits = close_pin m.live c d.0 p fits
 
 pub run_pin : (given : Given) (m : Machine) (h : List Taken) (c : ℕ) (p : Option (ℕ × Place)) → IsRun given m h → PinFits (login_of m.live c) p → PinFits (login_of (machine_after given m h).live c) (fold (λ q t. pin_after c q t.event t.outcome) p h)
 run_pin given m [] c p run fits = fits

@@ -22,7 +22,7 @@ use Rattle.ely_script.specs.declared.word.StepWord.TheVariants as words
 use Rattle.ely_script.specs.declared.outcome.Outcome.{Outcome}
 use Rattle.ely_script.specs.declared.outcome.Outcome.TheVariants as outcomes
 use Rattle.ely_script.specs.Words.{same_state, same_word, state_number, is_accepted}
-use Rattle.ely_domain.specs.Machine.{Given, Machine, Login, Pinned, Answered, login_of, with_login, when_in, when_pinned, when_carried, in_state, carried_in, roles, moved, loading, checking, named_first, named_unless, naming_fault, ident, ready_at, place_of, name1, name2, checked_first, is_carried, check1, judged, verdict, check2, grants, authorize, allows, succeed, begin, changed, step}
+use Rattle.ely_domain.specs.Machine.{Given, Machine, Login, Pinned, Answered, login_of, with_login, when_in, when_pinned, when_carried, in_state, carried_in, roles, moved, loading, checking, named_first, named_unless, naming_fault, ident, ready_at, place_of, name1, name2, checked_first, is_carried, check1, judged, verdict, check2, grants, authorize, allows, succeed, is_other, can_fail, failed_by, fail, closed_by, close, without_login, begin, changed, step}
 use Rattle.ely_domain.specs.Histories.{is_end, is_ready_since, is_established, accepted_word}
 use Rattle.ely_row.specs.Rows.{fault}
 use Rattle.ely_domain.proofs.WordLists.{next, IsAt, moved_on, ended}
@@ -90,6 +90,32 @@ refute : (s : Option (List StepWord)) (l l' : Login) (state : StateWord) → sam
     → Fits (Some l) s → Fits (Some l') s
 refute None l l' state same steps fits = absurd fits
 refute (Some rest) l l' state same steps fits = steps rest (rw (same_state_is l.state state same) at fits)
+
+-- a failure, and a close
+failed_on : (s : Option (List StepWord)) (l : Login) → Fits (Some l) s → Fits (Some (moved l states.Failed)) (next s (Some words.Fail))
+failed_on None l fits = absurd fits
+failed_on (Some rest) l fits = rw (ended rest words.Fail refl) refl
+
+closed_on : (s : Option (List StepWord)) (l : Login) → Fits (Some l) s → Fits None (next s (Some words.Close))
+closed_on None l fits = absurd fits
+closed_on (Some rest) l fits = ended rest words.Close refl
+
+-- a login that was taken away isn't found, and each other is
+pub without_same : (live : List (ℕ × Login)) (c : ℕ) → login_of (without_login live c) c ≡ None
+without_same [] c = refl
+without_same (x ∷ xs) c = by_first (without_same xs c) (eqb x.0 c) refl
+  where
+    by_first : login_of (without_login xs c) c ≡ None → (b : Bool) → eqb x.0 c ≡ b → login_of (without_login (x ∷ xs) c) c ≡ None
+    by_first more true e = rw e more
+    by_first more false e = rw e (rw e more)
+
+pub without_other : (live : List (ℕ × Login)) (c d : ℕ) → eqb d c ≡ false → login_of (without_login live d) c ≡ login_of live c
+without_other [] c d h = refl
+without_other (x ∷ xs) c d h = by_first (without_other xs c d h) (eqb x.0 d) refl
+  where
+    by_first : login_of (without_login xs d) c ≡ login_of xs c → (b : Bool) → eqb x.0 d ≡ b → login_of (without_login (x ∷ xs) d) c ≡ login_of (x ∷ xs) c
+    by_first more true e = rw e (rw (ap (λ (n : ℕ). eqb n c) (eqb-true x.0 d e) ∙ h) more)
+    by_first more false e = rw e (ap (cond (eqb x.0 c) (Some x.1)) more)
 
 -- a changed login is found, and no other is changed
 pub with_login_same : (live : List (ℕ × Login)) (c : ℕ) (l new : Login) → login_of live c ≡ Some l → login_of (with_login live c new) c ≡ Some new
@@ -187,7 +213,38 @@ module _ (live : List (ℕ × Login)) (c d : ℕ) (s : Option (List StepWord)) (
 
   pub name1_keeps : (edits : List Edit) (claim : Claim) → Keeps c s d words.Name1 (name1 edits live d claim)
   name1_keeps edits claim = in_state_cases (Keeps c s d words.Name1) live d states.Fresh _ (λ w. after_none live c d s fits)
-      (λ l is same. named_keeps edits claim l (naming_fault edits (length edits) (place_of claim)) refl is same)
+      (λ l is same. by_other l is same (is_other claim))
+    where
+      by_other : (l : Login) → login_of live d ≡ Some l → same_state l.state states.Fresh ≡ true → (b : Bool) → Keeps c s d words.Name1 (cond b (outcomes.Authzid, live) (named_unless edits live d claim l (naming_fault edits (length edits) (place_of claim))))
+      by_other l is same true = after_none live c d s fits
+      by_other l is same false = named_keeps edits claim l (naming_fault edits (length edits) (place_of claim)) refl is same
+
+  failed_keeps : (o : Option Login) → login_of live d ≡ o → Keeps c s d words.Fail (failed_by live d o)
+  failed_keeps None is = after_none live c d s fits
+  failed_keeps (Some l) is = by_test (can_fail l.state)
+    where
+      by_test : (b : Bool) → Keeps c s d words.Fail (cond b (outcomes.Fine, with_login live d (moved l states.Failed)) (outcomes.State l.state, live))
+      by_test true = after_move live c d s (Some words.Fail) l (moved l states.Failed) fits is (failed_on s l)
+      by_test false = after_none live c d s fits
+
+  pub fail_keeps : Keeps c s d words.Fail (fail live d)
+  unfolding fail
+  fail_keeps = failed_keeps (login_of live d) refl
+
+  closed_keeps : (o : Option Login) → login_of live d ≡ o → Keeps c s d words.Close (closed_by live d o)
+  closed_keeps None is = after_none live c d s fits
+  closed_keeps (Some l) is = by_id (eqb d c) refl
+    where
+      by_id : (b : Bool) → eqb d c ≡ b → Fits (login_of (without_login live d) c) (next s (cond b (Some words.Close) None))
+      by_id true e =
+          let same : d ≡ c = eqb-true d c e in
+          let here : login_of live c ≡ Some l = ap (login_of live) (sym same) ∙ is in
+          rw same (rw (without_same live c) (closed_on s l (rw here at fits)))
+      by_id false e = rw (without_other live c d e) fits
+
+  pub close_keeps : Keeps c s d words.Close (close live d)
+  unfolding close
+  close_keeps = closed_keeps (login_of live d) refl
 
   pub check1_keeps : (serial : Option ℕ) (given : Evidence) → Keeps c s d words.Check1 (check1 live d serial given)
   check1_keeps serial given = by_test (is_carried serial (login_of live d))
@@ -308,6 +365,8 @@ step_keeps given m c s (events.Check2 d serial) fits = check2_keeps m.live c d.0
 step_keeps given m c s (events.Authorize d) fits = authorize_keeps m.live c d.0 s fits m.edits
 step_keeps given m c s (events.Allows d wanted) fits = allows_keeps m.live c d.0 s fits m.edits wanted
 step_keeps given m c s (events.Succeed d) fits = succeed_keeps m.live c d.0 s fits m.edits
+step_keeps given m c s (events.Fail d) fits = fail_keeps m.live c d.0 s fits
+step_keeps given m c s (events.Close d) fits = close_keeps m.live c d.0 s fits
 
 -- a succeed is established exactly where the words say that the login is ready
 established_of : (edits : List Edit) (live : List (ℕ × Login)) (c : ℕ) (l : Login) (state : StateWord) (pin : Option Pinned) (rest : List StepWord) → FitsState state pin rest

@@ -156,6 +156,8 @@ has_words (Ok command) = by_verb command.verb
     by_verb (verbs.Plain c message) = (words.Name1, words.Name2 ∷ words.Check1 ∷ words.Check2 ∷ [], refl)
     by_verb (verbs.Authorize c) = (words.Authorize, [], refl)
     by_verb (verbs.Succeed c) = (words.Succeed, [], refl)
+    by_verb (verbs.Fail c) = (words.Fail, [], refl)
+    by_verb (verbs.Close c) = (words.Close, [], refl)
     by_verb (verbs.Allows c wanted) = (words.Allows, [], refl)
 
 whole_line : (given : Given) (lines earlier : List Line) (l : Line) (found : slice_get (own_lines lines (actor_of l)) (lines_of (actor_of l) earlier) ≡ Some l) (ends : Point → Type 0) (m : Machine) (cs : ℕ → Cursor)

@@ -34,9 +34,12 @@ abbrev pub IsOfLogin : Event → Type 0
 IsOfLogin (events.Bad bad) = ⊥
 IsOfLogin (events.Change edit) = ⊥
 IsOfLogin (events.Begin c mech _) = ⊥
+IsOfLogin (events.Close c) = ⊥
 IsOfLogin _ = Unit {0}
 
 -- a step that takes no memory
 abbrev pub TakesNoMemory : Event → Type 0
 TakesNoMemory (events.Succeed c) = Unit {0}
+TakesNoMemory (events.Fail c) = Unit {0}
+TakesNoMemory (events.Close c) = Unit {0}
 TakesNoMemory _ = ⊥

@@ -33,6 +33,8 @@ word_of (events.Check2 c serial) = words.Check2
 word_of (events.Authorize c) = words.Authorize
 word_of (events.Allows c wanted) = words.Allows
 word_of (events.Succeed c) = words.Succeed
+word_of (events.Fail c) = words.Fail
+word_of (events.Close c) = words.Close
 
 abbrev pub is_on : ℕ → Event → Bool
 is_on c (events.Bad bad) = false
@@ -45,6 +47,8 @@ is_on c (events.Check2 d serial) = d.0 == c
 is_on c (events.Authorize d) = d.0 == c
 is_on c (events.Allows d wanted) = d.0 == c
 is_on c (events.Succeed d) = d.0 == c
+is_on c (events.Fail d) = d.0 == c
+is_on c (events.Close d) = d.0 == c
 
 -- the word of an accepted step on c
 abbrev pub accepted_word : ℕ → Event → Outcome → Option StepWord

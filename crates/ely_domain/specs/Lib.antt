@@ -1,3 +1,4 @@
+pub mod Journals
 pub mod Machine
 pub mod Contexts
 pub mod Found

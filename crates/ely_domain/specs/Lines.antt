@@ -30,7 +30,11 @@ actor_of (Err (errors.Bad actor bad)) = actor
 
 abbrev pub edit_word : Edit → StepWord
 edit_word (edits.Add realm name) = words.Add
+edit_word (edits.Remove realm name) = words.Remove
 edit_word (edits.SetCred realm name slot cred) = words.SetCred
+edit_word (edits.DropCred realm name slot) = words.DropCred
+edit_word (edits.SetAttr realm name attr values) = words.SetAttr
+edit_word (edits.DropAttr realm name attr) = words.DropAttr
 
 -- the steps of a verb, in order
 abbrev pub verb_words : Verb → List StepWord
@@ -39,6 +43,8 @@ verb_words (verbs.Begin c mech _) = words.Begin ∷ []
 verb_words (verbs.Plain c message) = words.Name1 ∷ words.Name2 ∷ words.Check1 ∷ words.Check2 ∷ []
 verb_words (verbs.Authorize c) = words.Authorize ∷ []
 verb_words (verbs.Succeed c) = words.Succeed ∷ []
+verb_words (verbs.Fail c) = words.Fail ∷ []
+verb_words (verbs.Close c) = words.Close ∷ []
 verb_words (verbs.Allows c wanted) = words.Allows ∷ []
 
 abbrev pub words_of : Line → List StepWord
@@ -58,6 +64,8 @@ verb_event (verbs.Plain c message) words.Check1 carried = events.Check1 c (optio
 verb_event (verbs.Plain c message) _ carried = events.Check2 c (serial carried)
 verb_event (verbs.Authorize c) word carried = events.Authorize c
 verb_event (verbs.Succeed c) word carried = events.Succeed c
+verb_event (verbs.Fail c) word carried = events.Fail c
+verb_event (verbs.Close c) word carried = events.Close c
 verb_event (verbs.Allows c wanted) word carried = events.Allows c wanted
 
 abbrev pub event_of : Line → StepWord → Option ℕ → Event

@@ -1,5 +1,5 @@
 -- The cacheless machine: every answer is computed anew from the list of edits.
-use Rattle.std.specs.Prelude.{ℕ, ◌+◌, ◌==◌, Bool, true, false, if◌then◌else◌, nat_le, List, [], ◌∷◌, ◌++◌, length, take, Option, Some, None, is_some, codes, slice_get}
+use Rattle.std.specs.Prelude.{ℕ, ◌+◌, ◌==◌, Bool, true, false, if◌then◌else◌, nat_le, List, [], ◌∷◌, ◌++◌, length, take, fold, filter, not, Option, Some, None, is_some, codes, slice_get}
 use Rattle.std.specs.Option.{option_map, option_and_then}
 use Rattle.std.specs.Str.{bytes_eq}
 use Rattle.ely_row.specs.declared.cred.StoredCred.{StoredCred}
@@ -17,7 +17,8 @@ use Rattle.ely_script.specs.declared.claim.Claim.TheVariants as claims
 use Rattle.ely_script.specs.declared.claim.Evidence.{Evidence}
 use Rattle.ely_script.specs.declared.claim.Evidence.TheVariants as evidences
 use Rattle.ely_row.specs.declared.place.Place.{Place}
-use Rattle.ely_row.specs.Rows.{Identity, row, fault, ready, main_realm}
+use Rattle.std.specs.BTreeSet.{insert_key}
+use Rattle.ely_row.specs.Rows.{Identity, row, fault, ready, main_realm, name_cmp, attr_of}
 use Rattle.ely_script.specs.Words.{same_state}
 
 -- what a naming pinned: the number of edits that count, and whom they are asked about
@@ -55,6 +56,11 @@ abbrev pub with_login : List (ℕ × Login) → ℕ → Login → List (ℕ × L
 with_login [] c login = []
 with_login (l ∷ ls) c login = if l.0 == c then (c, login) ∷ ls else l ∷ with_login ls c login
 
+-- the logins without the one with this id
+abbrev pub without_login : List (ℕ × Login) → ℕ → List (ℕ × Login)
+without_login live c = filter (λ l. not (l.0 == c)) live
+
+-- the state of a login, or that there is none
 abbrev pub state_or_absent : Option Login → StateWord
 state_or_absent None = states.Absent
 state_or_absent (Some login) = login.state
@@ -108,9 +114,19 @@ abbrev pub verdict : List Edit → Option Pinned → Option Evidence → Bool
 verdict edits None given = false
 verdict edits (Some pin) given = is_proved (ready_at edits pin.version pin.place) given
 
--- the values of an identity's attribute for roles. There are no attributes yet
+-- the values as a set, listed in the order of their bytes
+abbrev pub as_set : List (List ℕ) → List (List ℕ)
+as_set values = fold (insert_key name_cmp) [] values
+
+-- the values of the attribute, where there are any
+abbrev pub values_or_none : Option (List (List ℕ)) → List (List ℕ)
+values_or_none None = []
+values_or_none (Some values) = as_set values
+
+-- the roles of an identity: the values of its attribute `groups`
 unfoldable pub groups : Option Identity → List (List ℕ)
-groups row = []
+groups None = []
+groups (Some row) = values_or_none (attr_of (codes "groups") row)
 
 -- the roles of a place at a version
 abbrev pub roles : List Edit → ℕ → Place → List (List ℕ)
@@ -156,8 +172,16 @@ abbrev pub named_unless : List Edit → List (ℕ × Login) → ℕ → Claim �
 named_unless edits live c claim login None = (outcomes.Pinned (record { 0 = length edits }), with_login live c (loading login (length edits) claim))
 named_unless edits live c claim login (Some fault) = (fault, live)
 
+-- the claim asks for another name than its own
+abbrev pub is_other : Claim → Bool
+is_other (claims.Plain None name) = false
+is_other (claims.Plain (Some authzid) name) = if bytes_eq authzid name then false else true
+
+-- the first half of a naming, by a login that has none yet
 abbrev pub named_first : List Edit → List (ℕ × Login) → ℕ → Claim → Login → Answered
-named_first edits live c claim login = named_unless edits live c claim login (naming_fault edits (length edits) (place_of claim))
+named_first edits live c claim login =
+    if is_other claim then (outcomes.Authzid, live)
+    else named_unless edits live c claim login (naming_fault edits (length edits) (place_of claim))
 
 abbrev pub name1 : List Edit → List (ℕ × Login) → ℕ → Claim → Answered
 name1 edits live c claim = in_state live c states.Fresh (named_first edits live c claim)
@@ -208,6 +232,30 @@ abbrev pub succeed : List Edit → List (ℕ × Login) → ℕ → Answered
 succeed edits live c = pinned_in live c states.Authorized (λ login pin.
     (outcomes.Established (record { 0 = pin.version }) pin.place (roles edits pin.version pin.place), with_login live c (moved login states.Complete)))
 
+-- the states that a failure ends
+abbrev pub can_fail : StateWord → Bool
+can_fail states.Absent = false
+can_fail states.Complete = false
+can_fail states.Failed = false
+can_fail _ = true
+
+abbrev pub failed_by : List (ℕ × Login) → ℕ → Option Login → Answered
+failed_by live c None = (outcomes.State states.Absent, live)
+failed_by live c (Some login) = if can_fail login.state then (outcomes.Fine, with_login live c (moved login states.Failed)) else (outcomes.State login.state, live)
+
+-- a login fails that neither failed nor is complete
+unfoldable pub fail : List (ℕ × Login) → ℕ → Answered
+fail live c = failed_by live c (login_of live c)
+
+abbrev pub closed_by : List (ℕ × Login) → ℕ → Option Login → Answered
+closed_by live c None = (outcomes.State states.Absent, live)
+closed_by live c (Some login) = (outcomes.Fine, without_login live c)
+
+-- a login is closed in whatever state it is
+unfoldable pub close : List (ℕ × Login) → ℕ → Answered
+close live c = closed_by live c (login_of live c)
+
+-- a change of the journal, where it is not refused
 abbrev pub changed : Machine → Edit → Option EditFault → Outcome × Machine
 changed m edit None = (outcomes.Changed (record { 0 = length m.edits + 1 }), record { edits = m.edits ++ edit ∷ []; live = m.live; opened = m.opened })
 changed m edit (Some fault) = (outcomes.Refused fault, m)
@@ -225,6 +273,8 @@ login_answer edits live (events.Check2 c serial) = check2 edits live c.0 serial.
 login_answer edits live (events.Authorize c) = authorize edits live c.0
 login_answer edits live (events.Allows c wanted) = allows edits live c.0 wanted
 login_answer edits live (events.Succeed c) = succeed edits live c.0
+login_answer edits live (events.Fail c) = fail live c.0
+login_answer edits live (events.Close c) = close live c.0
 login_answer edits live _ = (outcomes.Gone, live)
 
 unfoldable pub step : Given → Machine → Event → Outcome × Machine

@@ -4,6 +4,7 @@ ghost use Rattle.std.specs.Prelude.{◌≡◌, ◌≤◌, length, List, IfOk, On
 ghost use Rattle.std.specs.Option.{option_map};
 ghost use Rattle.ely_row.specs.declared.edit.Edit.{Edit};
 ghost use Rattle.ely_domain.specs.Machine.{ready_at, is_carried, proves, verdict, checked_first, check1, check2};
+ghost use Rattle.ely_domain.specs.Journals.{IsJournal};
 ghost use Rattle.ely_domain.specs.Contexts.{login, logins, AreSound, IsPast, pinned};
 
 use crate::context::{
@@ -33,7 +34,8 @@ fn is_proved_at(
     pin: &Pin,
     evidence: &Evidence,
 ) -> Result<bool, NoMemory>
-    requires { pin.now.version ≤ length edits.now }
+    requires version { pin.now.version ≤ length edits.now }
+    requires journal { IsJournal edits.now }
     ensures { IfOk result (λ proved. proved ≡ verdict edits.now (Some (pinned pin.now)) (Some evidence.now)) }
 {
     let Some(row) = row_at(alloc, edits, pin.version as usize, &pin.place)? else {
@@ -52,7 +54,8 @@ fn verdict(
     pin: &Option<Pin>,
     evidence: &Option<Evidence>,
 ) -> Result<bool, NoMemory>
-    requires { IsPast (length edits.now) (option_map pinned pin.now) }
+    requires past { IsPast (length edits.now) (option_map pinned pin.now) }
+    requires journal { IsJournal edits.now }
     ensures { IfOk result (λ proved. proved ≡ verdict edits.now (option_map pinned pin.now) evidence.now) }
 {
     match (pin, evidence) {
@@ -108,7 +111,8 @@ pub fn check2(
     id: CtxId,
     serial: Serial,
 ) -> Result<Outcome, NoMemory>
-    requires { AreSound edits.now contexts.old }
+    requires sound { AreSound edits.now contexts.old }
+    requires journal { IsJournal edits.now }
     ensures ok { IfOk result (λ outcome. (outcome, logins contexts.new) ≡ check2 edits.now (logins contexts.old) id.0 serial.0) }
     ensures sound { AreSound edits.now contexts.new }
     ensures err { OnErr result (contexts.new ≡ contexts.old) }

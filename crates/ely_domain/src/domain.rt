@@ -3,12 +3,14 @@
 ghost use Rattle.std.specs.Prelude.{◌≡◌, ◌<◌, ◌≤◌, ◌^◌, ◌-◌, length, IfOk, OnErr, IsOk};
 ghost use Rattle.std.specs.Option.{option_map};
 ghost use Rattle.ely_row.specs.Rows.{fault};
-ghost use Rattle.ely_domain.specs.Machine.{changed, begin, login_answer, of_logins, state_of, step};
+ghost use Rattle.ely_domain.specs.Machine.{changed, begin, close, login_answer, of_logins, state_of, step};
+ghost use Rattle.ely_domain.specs.Journals.{IsJournal};
 ghost use Rattle.ely_domain.specs.Contexts.{logins, AreSound};
 ghost use Rattle.ely_script.specs.Words.{cache_word};
 ghost use Rattle.ely_domain.specs.Domains.{IsOfLogin, TakesNoMemory, carrier, serial_at, serial_given};
 
 use crate::checking::{check1, check2};
+use crate::closing::{close, fail};
 use crate::context::{Context, context_of};
 use crate::event::{Answer, Event};
 use crate::granting::{allows, authorize, succeed};
@@ -35,6 +37,7 @@ pub struct Domain {
 impl Model for Domain {
     ghost use Rattle.ely_domain.specs.Domains.{Seen};
     ghost use Rattle.std.specs.Prelude.{◌≤◌, length};
+    ghost use Rattle.ely_row.specs.Accepted.{IsAccepted};
     ghost use Rattle.ely_domain.specs.Contexts.{logins, AreSound};
 
     ghost Value = { Seen };
@@ -44,7 +47,7 @@ impl Model for Domain {
       machine = record { edits = d.edits.items; live = logins d.contexts.items; opened = d.opened };
     } };
 
-    ghost invariant = { λ d. (length d.edits.items ≤ d.limit) × (d.limit ≤ 131072) × AreSound d.edits.items d.contexts.items };
+    ghost invariant = { λ d. (length d.edits.items ≤ d.limit) × (d.limit ≤ 131072) × AreSound d.edits.items d.contexts.items × IsAccepted d.limit d.edits.items };
 }
 
 impl Domain {
@@ -85,6 +88,7 @@ impl Domain {
         }
     }
 
+    #[tactic(auto, using(crate::proofs::Accepted::journal_of))]
     fn change(&mut self, alloc: Global, edit: Edit) -> Result<Outcome, NoMemory>
         ensures ok { IfOk result (λ outcome. (outcome, self.new.machine) ≡ changed self.old.machine edit (fault self.old.given.limit self.old.machine.edits edit)) }
         ensures given { self.new.given ≡ self.old.given }
@@ -125,7 +129,16 @@ impl Domain {
         })
     }
 
+    /// Closes a login.
+    fn close_login(&mut self, id: CtxId) -> Outcome
+        ensures ok { (result, self.new.machine) ≡ of_logins self.old.machine (close self.old.machine.live id.0) }
+        ensures given { self.new.given ≡ self.old.given }
+    {
+        close(&mut self.contexts, id)
+    }
+
     /// What the domain answers to a step of a login that is there.
+    #[tactic(auto, using(crate::proofs::Accepted::journal_of))]
     fn login_step(&mut self, alloc: Global, event: Event) -> Result<Outcome, NoMemory>
         requires { IsOfLogin event }
         ensures ok { IfOk result (λ outcome. (outcome, self.new.machine) ≡ of_logins self.old.machine (login_answer self.old.machine.edits self.old.machine.live event)) }
@@ -154,6 +167,7 @@ impl Domain {
             Event::Bad { bad } => Ok(Outcome::Bad(bad)),
             Event::Change { edit } => self.change(alloc, edit),
             Event::Begin { ctx, .. } => self.begin(ctx),
+            Event::Close { ctx } => Ok(self.close_login(ctx)),
             event => self.login_step(alloc, event),
         }
     }
@@ -207,6 +221,7 @@ fn answer_login(
 ) -> Result<Outcome, NoMemory>
     requires login { IsOfLogin event }
     requires sound { AreSound edits.now contexts.old }
+    requires journal { IsJournal edits.now }
     ensures ok { IfOk result (λ outcome. (outcome, logins contexts.new) ≡ login_answer edits.now (logins contexts.old) event) }
     ensures sound { AreSound edits.now contexts.new }
     ensures err { OnErr result (contexts.new ≡ contexts.old) }
@@ -224,6 +239,9 @@ fn answer_login(
         Event::Authorize { ctx } => authorize(alloc, edits, contexts, ctx),
         Event::Allows { ctx, wanted } => Ok(allows(edits, contexts, ctx, &wanted)),
         Event::Succeed { ctx } => Ok(succeed(edits, contexts, ctx)),
-        Event::Bad { .. } | Event::Change { .. } | Event::Begin { .. } => unreachable!(),
+        Event::Fail { ctx } => Ok(fail(contexts, ctx)),
+        Event::Bad { .. } | Event::Change { .. } | Event::Begin { .. } | Event::Close { .. } => {
+            unreachable!()
+        }
     }
 }

@@ -49,6 +49,12 @@ pub enum Event {
     Succeed {
         ctx: CtxId,
     },
+    Fail {
+        ctx: CtxId,
+    },
+    Close {
+        ctx: CtxId,
+    },
 }
 
 /// What the domain answers to a step.

@@ -2,14 +2,17 @@
 
 ghost use Rattle.std.specs.Prelude.{◌≡◌, ◌≤◌, List, length, codes, IfOk, OnErr, None, Some};
 ghost use Rattle.std.specs.Option.{option_map};
-ghost use Rattle.ely_domain.specs.Machine.{grants, roles, authorize, allows, succeed};
+ghost use Rattle.ely_domain.specs.Machine.{as_set, groups, grants, roles, authorize, allows, succeed};
+ghost use Rattle.ely_domain.specs.Journals.{IsJournal};
 ghost use Rattle.ely_domain.specs.Contexts.{logins, AreSound, pinned, prepared_for};
 
 use crate::context::{Context, Pin, Prepared, context_in, hand_out, set_prepared};
+use crate::naming::row_at;
 use ely_base::{Bytes, CtxId, Items, Name, NoMemory, Version};
-use ely_row::{Edit, Place};
+use ely_row::{Edit, Place, Row};
 use ely_script::{Outcome, StateWord};
 use std::alloc::Global;
+use std::collections::BTreeSet;
 
 /// The place has the permission at this version: the one that there is, `login`, is everybody's.
 #[tactic(auto, unfolding(crate::specs::Machine::grants))]
@@ -20,22 +23,65 @@ fn grants(edits: &[Edit], version: u64, place: &Place, wanted: &[u8]) -> bool
     wanted == b"login".as_slice()
 }
 
-/// The roles of the place at this version.
+/// The names as a set, in the order of their bytes.
+#[tactic(auto, using(std::proofs::lemmas::List::Sums::fold_more))]
+fn set_of(alloc: Global, values: &[Name]) -> Result<BTreeSet<Name>, NoMemory>
+    ensures { IfOk result (λ set. set.keys ≡ as_set values.now) }
+{
+    let mut set = BTreeSet::new(alloc);
+    for value in values {
+        set.insert(value.copy(alloc)?)?;
+    }
+    Ok(set)
+}
+
+/// The names of a set, in its order.
+fn listed(alloc: Global, set: &BTreeSet<Name>) -> Result<Items<Name>, NoMemory>
+    ensures { IfOk result (λ list. list ≡ set.now.keys) }
+{
+    let mut list = Vec::new(alloc);
+    for name in set {
+        list.push(name.copy(alloc)?)?;
+    }
+    Ok(Items::of(list))
+}
+
+/// The roles of an identity: the values of its attribute `groups`.
 #[tactic(auto, unfolding(crate::specs::Machine::groups))]
+fn groups_of(alloc: Global, row: Option<&Row>) -> Result<Items<Name>, NoMemory>
+    ensures { IfOk result (λ found. found ≡ groups (option_map (λ r. r.now) row.entry)) }
+{
+    let Some(row) = row else {
+        return Ok(Items::of(Vec::new(alloc)));
+    };
+    let attr = Name::of(Vec::from_slice(alloc, b"groups")?);
+    match row.attr(&attr) {
+        None => Ok(Items::of(Vec::new(alloc))),
+        Some(values) => {
+            let set = set_of(alloc, values.all())?;
+            listed(alloc, &set)
+        }
+    }
+}
+
+/// The roles of the place at this version.
 fn roles_of(
     alloc: Global,
     edits: &[Edit],
     version: u64,
     place: &Place,
 ) -> Result<Items<Name>, NoMemory>
-    requires { version ≤ length edits.now }
+    requires version { version ≤ length edits.now }
+    requires journal { IsJournal edits.now }
     ensures { IfOk result (λ found. found ≡ roles edits.now version place.now) }
 {
-    Ok(Items::of(Vec::new(alloc)))
+    let row = row_at(alloc, edits, version as usize, place)?;
+    groups_of(alloc, row.as_ref())
 }
 
 fn prepared_for(alloc: Global, edits: &[Edit], pin: &Pin) -> Result<Prepared, NoMemory>
-    requires { pin.now.version ≤ length edits.now }
+    requires version { pin.now.version ≤ length edits.now }
+    requires journal { IsJournal edits.now }
     ensures { IfOk result (λ found. found ≡ prepared_for edits.now (pinned pin.now)) }
 {
     Ok(Prepared {
@@ -55,7 +101,8 @@ pub fn authorize(
     contexts: &mut [Context],
     id: CtxId,
 ) -> Result<Outcome, NoMemory>
-    requires { AreSound edits.now contexts.old }
+    requires sound { AreSound edits.now contexts.old }
+    requires journal { IsJournal edits.now }
     ensures ok { IfOk result (λ outcome. (outcome, logins contexts.new) ≡ authorize edits.now (logins contexts.old) id.0) }
     ensures sound { AreSound edits.now contexts.new }
     ensures err { OnErr result (contexts.new ≡ contexts.old) }

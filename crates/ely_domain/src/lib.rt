@@ -4,6 +4,7 @@
 #![tactic(auto)]
 
 mod checking;
+mod closing;
 mod context;
 mod domain;
 mod event;

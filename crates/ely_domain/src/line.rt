@@ -17,7 +17,11 @@ fn edit_word(edit: &Edit) -> StepWord
 {
     match edit {
         Edit::Add { .. } => StepWord::Add,
+        Edit::Remove { .. } => StepWord::Remove,
         Edit::SetCred { .. } => StepWord::SetCred,
+        Edit::DropCred { .. } => StepWord::DropCred,
+        Edit::SetAttr { .. } => StepWord::SetAttr,
+        Edit::DropAttr { .. } => StepWord::DropAttr,
     }
 }
 
@@ -84,24 +88,24 @@ fn verb_event(
 ) -> Result<Event, NoMemory>
     ensures { IfOk result (λ event. event ≡ verb_event verb.now word (option_map (λ s. s.0) carried)) }
 {
-    {
-        match verb {
-            Verb::Change { edit } => Ok(Event::Change {
-                edit: edit.copy(alloc)?,
-            }),
-            Verb::Begin { ctx, mech, nonce } => Ok(Event::Begin {
-                ctx: *ctx,
-                mech: *mech,
-                nonce: bytes_copy(alloc, nonce)?,
-            }),
-            Verb::Plain { ctx, message } => plain_event(alloc, *ctx, message, word, carried),
-            Verb::Authorize { ctx } => Ok(Event::Authorize { ctx: *ctx }),
-            Verb::Succeed { ctx } => Ok(Event::Succeed { ctx: *ctx }),
-            Verb::Allows { ctx, wanted } => Ok(Event::Allows {
-                ctx: *ctx,
-                wanted: wanted.copy(alloc)?,
-            }),
-        }
+    match verb {
+        Verb::Change { edit } => Ok(Event::Change {
+            edit: edit.copy(alloc)?,
+        }),
+        Verb::Begin { ctx, mech, nonce } => Ok(Event::Begin {
+            ctx: *ctx,
+            mech: *mech,
+            nonce: bytes_copy(alloc, nonce)?,
+        }),
+        Verb::Plain { ctx, message } => plain_event(alloc, *ctx, message, word, carried),
+        Verb::Authorize { ctx } => Ok(Event::Authorize { ctx: *ctx }),
+        Verb::Succeed { ctx } => Ok(Event::Succeed { ctx: *ctx }),
+        Verb::Fail { ctx } => Ok(Event::Fail { ctx: *ctx }),
+        Verb::Close { ctx } => Ok(Event::Close { ctx: *ctx }),
+        Verb::Allows { ctx, wanted } => Ok(Event::Allows {
+            ctx: *ctx,
+            wanted: wanted.copy(alloc)?,
+        }),
     }
 }
 
@@ -132,6 +136,8 @@ pub fn words_of(alloc: Global, line: &Result<Command, LineError>) -> Result<Vec<
             ]?,
             Verb::Authorize { .. } => vec![in alloc; StepWord::Authorize]?,
             Verb::Succeed { .. } => vec![in alloc; StepWord::Succeed]?,
+            Verb::Fail { .. } => vec![in alloc; StepWord::Fail]?,
+            Verb::Close { .. } => vec![in alloc; StepWord::Close]?,
             Verb::Allows { .. } => vec![in alloc; StepWord::Allows]?,
         },
     };

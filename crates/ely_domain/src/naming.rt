@@ -3,7 +3,8 @@
 ghost use Rattle.std.specs.Prelude.{◌≡◌, ◌≤◌, length, IfOk, OnErr, is_some};
 ghost use Rattle.std.specs.Option.{option_map};
 ghost use Rattle.ely_row.specs.Rows.{main_realm};
-ghost use Rattle.ely_domain.specs.Machine.{place_of, ident, naming_fault, name1, name2};
+ghost use Rattle.ely_domain.specs.Machine.{is_other, place_of, ident, naming_fault, name1, name2};
+ghost use Rattle.ely_domain.specs.Journals.{IsJournal};
 ghost use Rattle.ely_domain.specs.Contexts.{logins, AreSound, IsPast, pinned};
 
 use crate::context::{Context, Pin, context_carried, context_in, set_pin, set_state};
@@ -33,14 +34,15 @@ fn main_realm(alloc: Global) -> Result<Name, NoMemory>
 }
 
 /// The row of the place after the first edits.
-#[tactic(auto, unfolding(crate::specs::Machine::ident))]
+#[tactic(auto, using(crate::proofs::Accepted::journal_take), unfolding(crate::specs::Machine::ident))]
 pub fn row_at(
     alloc: Global,
     edits: &[Edit],
     version: usize,
     place: &Place,
 ) -> Result<Option<Row>, NoMemory>
-    requires { version ≤ length edits.now }
+    requires version { version ≤ length edits.now }
+    requires journal { IsJournal edits.now }
     ensures { IfOk result (λ found. found ≡ ident edits.now version place.now) }
 {
     row_of(alloc, &edits[..version], &place.realm, &place.name)
@@ -54,7 +56,8 @@ fn naming_fault(
     version: usize,
     place: &Place,
 ) -> Result<Option<Outcome>, NoMemory>
-    requires { version ≤ length edits.now }
+    requires version { version ≤ length edits.now }
+    requires journal { IsJournal edits.now }
     ensures { IfOk result (λ fault. fault ≡ naming_fault edits.now version place.now) }
 {
     let Some(row) = row_at(alloc, edits, version, place)? else {
@@ -66,6 +69,18 @@ fn naming_fault(
     Ok(None)
 }
 
+/// Whether a claim asks for another name than its own.
+fn is_other(claim: &Claim) -> bool
+    ensures { result ≡ is_other claim.now }
+{
+    match claim {
+        Claim::Plain { authzid, name } => match authzid {
+            None => false,
+            Some(other) => !other.is(name),
+        },
+    }
+}
+
 /// The first half of a naming.
 pub fn name1(
     alloc: Global,
@@ -74,7 +89,8 @@ pub fn name1(
     id: CtxId,
     claim: Claim,
 ) -> Result<Outcome, NoMemory>
-    requires { AreSound edits.now contexts.old }
+    requires sound { AreSound edits.now contexts.old }
+    requires journal { IsJournal edits.now }
     ensures ok { IfOk result (λ outcome. (outcome, logins contexts.new) ≡ name1 edits.now (logins contexts.old) id.0 claim) }
     ensures sound { AreSound edits.now contexts.new }
     ensures err { OnErr result (contexts.new ≡ contexts.old) }
@@ -83,6 +99,9 @@ pub fn name1(
         Ok(context) => context,
         Err(refusal) => return Ok(refusal),
     };
+    if is_other(&claim) {
+        return Ok(Outcome::Authzid);
+    }
     let version = edits.len();
     let place = place_of(alloc, &claim)?;
     if let Some(fault) = naming_fault(alloc, edits, version, &place)? {

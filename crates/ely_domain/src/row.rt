@@ -1,102 +1,71 @@
 //! What the journal says of a name, by a walk through its edits.
 
-ghost use Rattle.std.specs.Prelude.{◌≡◌, length, IfOk};
+ghost use Rattle.std.specs.Prelude.{◌≡◌, ◌+◌, ◌<◌, ◌≤◌, ◌^◌, length, IfOk};
 ghost use Rattle.std.specs.Str.{bytes_eq};
-ghost use Rattle.ely_row.specs.Rows.{row, row_after, row_count, realm_of, main_realm, own_fault, fault};
+ghost use Rattle.ely_row.specs.Rows.{row, row_count, count_after, main_realm, own_fault, fault};
+ghost use Rattle.ely_domain.specs.Journals.{IsJournal};
 
 use ely_base::{Name, NoMemory};
-use ely_row::{Edit, EditFault, Row};
+use ely_row::{Edit, EditFault, Row, row_after, row_fault};
 use std::alloc::Global;
 
-fn row_after_edit(
-    alloc: Global,
-    realm: &Name,
-    name: &Name,
-    before: Option<Row>,
-    edit: &Edit,
-) -> Result<Option<Row>, NoMemory>
-    ensures { IfOk result (λ after. after ≡ row_after realm.now name.now before edit.now) }
-{
-    match edit {
-        Edit::Add { realm: r, name: n } => {
-            if r.is(realm) && n.is(name) {
-                Ok(Some(Row::new(alloc)))
-            } else {
-                Ok(before)
-            }
-        }
-        Edit::SetCred {
-            realm: r,
-            name: n,
-            slot,
-            cred,
-        } => {
-            if r.is(realm) && n.is(name) {
-                match before {
-                    None => Ok(None),
-                    Some(row) => Ok(Some(row.with(*slot, cred.copy(alloc)?)?)),
-                }
-            } else {
-                Ok(before)
-            }
-        }
-    }
-}
-
-/// The row that the edits made.
-#[tactic(auto, using(std::proofs::lemmas::List::Sums::fold_more), unfolding(ely_row::specs::Rows::row))]
+/// The row that the edits of a journal made.
+#[tactic(auto, using(std::proofs::lemmas::List::Sums::fold_more, crate::proofs::Accepted::suits_here), unfolding(ely_row::specs::Rows::row))]
 pub fn row_of(
     alloc: Global,
     edits: &[Edit],
     realm: &Name,
     name: &Name,
 ) -> Result<Option<Row>, NoMemory>
+    requires { IsJournal edits.now }
     ensures { IfOk result (λ found. found ≡ row edits.now realm.now name.now) }
 {
     let mut found: Option<Row> = None;
     for edit in edits {
-        found = row_after_edit(alloc, realm, name, found, edit)?;
+        found = row_after(alloc, realm, name, found, edit)?;
     }
     Ok(found)
 }
 
-/// How many rows the edits made in the realm.
-#[tactic(auto, using(std::proofs::lemmas::List::Sums::fold_more), unfolding(ely_row::specs::Rows::row_count))]
-pub fn row_count_of(edits: &[Edit], realm: &Name) -> usize
-    ensures { result ≡ row_count edits.now realm.now }
+/// How many rows the realm has after one more edit.
+fn count_after(count: usize, realm: &Name, edit: &Edit) -> usize
+    requires { count < 2 ^ 63 }
+    ensures value { result ≡ count_after realm.now count edit.now }
+    ensures few { result ≤ count + 1 }
 {
-    let mut count = 0;
-    for edit in edits {
-        if let Edit::Add { realm: r, .. } = edit {
+    match edit {
+        Edit::Add { realm: r, .. } => { if r.is(realm) { count + 1 } else { count } }
+        Edit::Remove { realm: r, .. } => {
             if r.is(realm) {
-                count += 1;
+                count.saturating_sub(1)
+            } else {
+                count
             }
         }
+        _ => count,
+    }
+}
+
+/// How many rows the edits made in the realm.
+#[tactic(auto, using(std::proofs::lemmas::List::Sums::fold_more), unfolding(ely_row::specs::Rows::row_count))]
+fn row_count_of(edits: &[Edit], realm: &Name) -> usize
+    ensures { result ≡ row_count edits.now realm.now }
+{
+    let mut count: usize = 0;
+    for edit in edits {
+        count = count_after(count, realm, edit);
     }
     count
 }
 
+/// Why an edit of a realm that is there is refused after these.
 fn own_fault_of(alloc: Global, edits: &[Edit], edit: &Edit) -> Result<Option<EditFault>, NoMemory>
-    ensures { IfOk result (λ fault. fault ≡ own_fault edits.now edit.now) }
+    requires { IsJournal edits.now }
+    ensures { IfOk result (λ found. found ≡ own_fault edits.now edit.now) }
 {
-    match edit {
-        Edit::Add { realm, name } => {
-            if row_of(alloc, edits, realm, name)?.is_some() {
-                Ok(Some(EditFault::Exists))
-            } else if row_count_of(edits, realm) >= 65536 {
-                Ok(Some(EditFault::RowsFull))
-            } else {
-                Ok(None)
-            }
-        }
-        Edit::SetCred { realm, name, .. } => {
-            if row_of(alloc, edits, realm, name)?.is_some() {
-                Ok(None)
-            } else {
-                Ok(Some(EditFault::Absent))
-            }
-        }
-    }
+    let row = row_of(alloc, edits, edit.realm(), edit.name())?;
+    let count = row_count_of(edits, edit.realm());
+    Ok(row_fault(count, row.as_ref(), edit))
 }
 
 /// Whether the name is that of the one realm that there is.
@@ -114,6 +83,7 @@ pub fn fault_of(
     edits: &[Edit],
     edit: &Edit,
 ) -> Result<Option<EditFault>, NoMemory>
+    requires { IsJournal edits.now }
     ensures { IfOk result (λ found. found ≡ fault limit edits.now edit.now) }
 {
     if edits.len() >= limit as usize {

@@ -105,6 +105,8 @@ opens_nothing given m (Ok command) carried i v w ws h = by_verb command.verb h
     by_verb (verbs.Begin c mech opening) h = absurd (one_step _ i v w ws h)
     by_verb (verbs.Authorize c) h = absurd (one_step _ i v w ws h)
     by_verb (verbs.Succeed c) h = absurd (one_step _ i v w ws h)
+    by_verb (verbs.Fail c) h = absurd (one_step _ i v w ws h)
+    by_verb (verbs.Close c) h = absurd (one_step _ i v w ws h)
     by_verb (verbs.Allows c wanted) h = absurd (one_step _ i v w ws h)
 
 pub room_next : (given : Given) (m : Machine) (line : Line) (carried : Option ℕ) (i : ℕ) (v : StepWord) (rest : List StepWord) → drop i (words_of line) ≡ v ∷ rest → HasRoom m (v ∷ rest) → HasRoom (step given m (event_of line v carried)).1 rest
@@ -169,6 +171,8 @@ four_words (Ok command) = by_verb command.verb
     by_verb (verbs.Begin c mech opening) = lit≤ tt
     by_verb (verbs.Authorize c) = lit≤ tt
     by_verb (verbs.Succeed c) = lit≤ tt
+    by_verb (verbs.Fail c) = lit≤ tt
+    by_verb (verbs.Close c) = lit≤ tt
     by_verb (verbs.Allows c wanted) = lit≤ tt
 
 step_opens : (given : Given) (m : Machine) (event : Event) → (step given m event).1.opened ≤ m.opened + 1
@@ -192,6 +196,8 @@ step_opens given m (events.Check2 d serial) = omega arith
 step_opens given m (events.Authorize d) = omega arith
 step_opens given m (events.Allows d wanted) = omega arith
 step_opens given m (events.Succeed d) = omega arith
+step_opens given m (events.Fail d) = omega arith
+step_opens given m (events.Close d) = omega arith
 
 pub run_opens : (given : Given) (m : Machine) (line : Line) (carried : Option ℕ) (ws : List StepWord) → (run_words given m line carried ws).1.opened ≤ m.opened + length ws
 unfolding run_words

@@ -11,3 +11,6 @@ mod script;
 pub use call::{replay_call, run};
 pub use ending::Ending;
 pub use line::run_line;
+
+#[cfg(test)]
+mod tests;

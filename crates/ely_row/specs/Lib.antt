@@ -1,2 +1,5 @@
-pub mod Rows
 pub mod Creds
+pub mod Attributes
+pub mod Rows
+pub mod Dependence
+pub mod Accepted

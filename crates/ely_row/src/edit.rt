@@ -1,17 +1,23 @@
 //! The edits of the journal, and why one is refused.
 
 ghost use Rattle.std.specs.Prelude.{◌≡◌, IfOk};
-ghost use Rattle.ely_row.specs.Rows.{realm_of};
+ghost use Rattle.ely_row.specs.Rows.{realm_of, name_of};
 
 use crate::cred::StoredCred;
+use crate::values::Values;
 use ely_base::{Name, NoMemory};
 use std::alloc::Global;
 
 /// A change of one identity.
 #[derive(Debug, Drop)]
 pub enum Edit {
-    /// A new identity without credentials.
+    /// A new identity without credentials and attributes.
     Add {
+        realm: Name,
+        name: Name,
+    },
+    /// The end of an identity, with all its credentials and attributes.
+    Remove {
         realm: Name,
         name: Name,
     },
@@ -22,6 +28,25 @@ pub enum Edit {
         slot: u8,
         cred: StoredCred,
     },
+    /// The end of the credential of a slot.
+    DropCred {
+        realm: Name,
+        name: Name,
+        slot: u8,
+    },
+    /// The values of an attribute, in place of what stood there.
+    SetAttr {
+        realm: Name,
+        name: Name,
+        attr: Name,
+        values: Values,
+    },
+    /// The end of an attribute.
+    DropAttr {
+        realm: Name,
+        name: Name,
+        attr: Name,
+    },
 }
 
 impl Edit {
@@ -31,7 +56,25 @@ impl Edit {
     {
         match self {
             Edit::Add { realm, .. } => realm,
+            Edit::Remove { realm, .. } => realm,
             Edit::SetCred { realm, .. } => realm,
+            Edit::DropCred { realm, .. } => realm,
+            Edit::SetAttr { realm, .. } => realm,
+            Edit::DropAttr { realm, .. } => realm,
+        }
+    }
+
+    /// The name of the identity.
+    pub fn name(&self) -> &Name
+        ensures { result.now ≡ name_of self.now }
+    {
+        match self {
+            Edit::Add { name, .. } => name,
+            Edit::Remove { name, .. } => name,
+            Edit::SetCred { name, .. } => name,
+            Edit::DropCred { name, .. } => name,
+            Edit::SetAttr { name, .. } => name,
+            Edit::DropAttr { name, .. } => name,
         }
     }
 
@@ -39,21 +82,32 @@ impl Edit {
     pub fn copy(&self, alloc: Global) -> Result<Edit, NoMemory>
         ensures { IfOk result (λ copy. copy ≡ self.now) }
     {
+        let realm = self.realm().copy(alloc)?;
+        let name = self.name().copy(alloc)?;
         match self {
-            Edit::Add { realm, name } => Ok(Edit::Add {
-                realm: realm.copy(alloc)?,
-                name: name.copy(alloc)?,
-            }),
-            Edit::SetCred {
+            Edit::Add { .. } => Ok(Edit::Add { realm, name }),
+            Edit::Remove { .. } => Ok(Edit::Remove { realm, name }),
+            Edit::SetCred { slot, cred, .. } => Ok(Edit::SetCred {
                 realm,
                 name,
-                slot,
-                cred,
-            } => Ok(Edit::SetCred {
-                realm: realm.copy(alloc)?,
-                name: name.copy(alloc)?,
                 slot: *slot,
                 cred: cred.copy(alloc)?,
+            }),
+            Edit::DropCred { slot, .. } => Ok(Edit::DropCred {
+                realm,
+                name,
+                slot: *slot,
+            }),
+            Edit::SetAttr { attr, values, .. } => Ok(Edit::SetAttr {
+                realm,
+                name,
+                attr: attr.copy(alloc)?,
+                values: values.copy(alloc)?,
+            }),
+            Edit::DropAttr { attr, .. } => Ok(Edit::DropAttr {
+                realm,
+                name,
+                attr: attr.copy(alloc)?,
             }),
         }
     }

@@ -1,46 +1,117 @@
-//! An identity: its credentials by their slots.
+//! An identity: its credentials by their slots and its attributes by their names.
 
-ghost use Rattle.std.specs.Prelude.{◌≡◌, [], length, IfOk};
+ghost use Rattle.std.specs.Prelude.{◌≡◌, ◌≤◌, IsTrue, length, IfOk};
 ghost use Rattle.std.specs.Option.{option_copied};
-ghost use Rattle.ely_row.specs.Rows.{with_cred, ready};
+ghost use Rattle.std.specs.Ordering.{nat_cmp};
+ghost use Rattle.std.specs.BTreeMap.{IsOrdered};
+ghost use Rattle.ely_row.specs.Rows.{IsRow, name_cmp, no_row, ready, has_cred, has_attr, attr_of, has_cred_room, has_attr_room, with_cred, without_cred, with_attr, without_attr};
 
 use crate::cred::StoredCred;
-use ely_base::NoMemory;
+use crate::values::Values;
+use ely_base::{Name, NoMemory};
 use std::alloc::Global;
 use std::collections::BTreeMap;
 use std::marker::Model;
 
-/// An identity, seen as its credentials with their slots, the slots rising.
+/// The most credentials of an identity.
+const MOST_CREDS: usize = 8;
+
+/// The most attributes of an identity.
+const MOST_ATTRS: usize = 32;
+
+/// An identity, seen as its credentials with their slots, the slots rising, and its attributes with their names, the names
+/// rising. It has at most 8 credentials and at most 32 attributes.
 #[derive(Drop)]
 pub struct Row {
     creds: BTreeMap<u8, StoredCred>,
+    attrs: BTreeMap<Name, Values>,
 }
 
 impl Model for Row {
-    ghost use Rattle.ely_row.specs.Rows.{Identity};
+    ghost use Rattle.ely_row.specs.Rows.{Identity, IsRow};
 
     ghost Value = { Identity };
 
-    ghost view = { λ r. record { creds = r.creds.entries } };
+    ghost view = { λ r. record { creds = r.creds.entries; attrs = r.attrs.entries } };
+
+    ghost invariant = { λ r. IsRow (record { creds = r.creds.entries; attrs = r.attrs.entries }) };
+}
+
+/// Equal credentials in the same slots.
+fn copy_creds(
+    alloc: Global,
+    creds: &BTreeMap<u8, StoredCred>,
+) -> Result<BTreeMap<u8, StoredCred>, NoMemory>
+    ensures entries { IfOk result (λ copy. copy.entries ≡ creds.now.entries) }
+    ensures rise { IfOk result (λ copy. IsOrdered nat_cmp copy) }
+{
+    let mut copy = BTreeMap::new(alloc);
+    for (slot, cred) in creds {
+        copy.insert(*slot, cred.copy(alloc)?)?;
+    }
+    Ok(copy)
+}
+
+/// Equal values of the same attributes.
+fn copy_attrs(
+    alloc: Global,
+    attrs: &BTreeMap<Name, Values>,
+) -> Result<BTreeMap<Name, Values>, NoMemory>
+    ensures entries { IfOk result (λ copy. copy.entries ≡ attrs.now.entries) }
+    ensures rise { IfOk result (λ copy. IsOrdered name_cmp copy) }
+{
+    let mut copy = BTreeMap::new(alloc);
+    for (attr, values) in attrs {
+        copy.insert(attr.copy(alloc)?, values.copy(alloc)?)?;
+    }
+    Ok(copy)
 }
 
 impl Row {
-    /// An identity without credentials.
+    /// An identity without credentials and attributes.
     pub fn new(alloc: Global) -> Row
-        ensures { result ≡ record { creds = [] } }
+        ensures { result ≡ no_row }
     {
         Row {
             creds: BTreeMap::new(alloc),
+            attrs: BTreeMap::new(alloc),
         }
     }
 
-    /// Puts the credential in the slot, in place of what stood there.
-    pub fn with(self, slot: u8, cred: StoredCred) -> Result<Row, NoMemory>
-        ensures { IfOk result (λ row. row ≡ with_cred slot cred self) }
+    /// How many credentials it has.
+    pub fn cred_count(&self) -> usize
+        ensures value { result ≡ length self.now.creds }
+        ensures bounds { IsRow self.now }
     {
-        let Row { mut creds } = self;
-        creds.insert(slot, cred)?;
-        Ok(Row { creds })
+        self.creds.len()
+    }
+
+    /// How many attributes it has.
+    pub fn attr_count(&self) -> usize
+        ensures { result ≡ length self.now.attrs }
+    {
+        self.attrs.len()
+    }
+
+    /// Whether the slot holds a credential.
+    pub fn has_cred(&self, slot: u8) -> bool
+        ensures { result ≡ has_cred slot self.now }
+    {
+        self.creds.contains_key(&slot)
+    }
+
+    /// Whether it has the attribute.
+    pub fn has_attr(&self, attr: &Name) -> bool
+        ensures { result ≡ has_attr attr.now self.now }
+    {
+        self.attrs.contains_key(attr)
+    }
+
+    /// The values of the attribute.
+    pub fn attr(&self, attr: &Name) -> Option<&Values>
+        ensures { option_copied result ≡ attr_of attr.now self.now }
+    {
+        self.attrs.get(attr)
     }
 
     /// The credential of the lowest slot.
@@ -51,5 +122,66 @@ impl Row {
             None => None,
             Some((_, cred)) => Some(cred),
         }
+    }
+
+    /// Whether a credential may be put into the slot: one is there, or fewer than 8 are in all.
+    pub fn has_cred_room(&self, slot: u8) -> bool
+        ensures { result ≡ has_cred_room slot self.now }
+    {
+        self.has_cred(slot) || self.cred_count() < MOST_CREDS
+    }
+
+    /// Whether values may be given to the attribute: it is there, or fewer than 32 are in all.
+    pub fn has_attr_room(&self, attr: &Name) -> bool
+        ensures { result ≡ has_attr_room attr.now self.now }
+    {
+        self.has_attr(attr) || self.attr_count() < MOST_ATTRS
+    }
+
+    /// Puts the credential in the slot, in place of what stood there.
+    pub fn with(self, slot: u8, cred: StoredCred) -> Result<Row, NoMemory>
+        requires { IsTrue (has_cred_room slot self) }
+        ensures { IfOk result (λ row. row ≡ with_cred slot cred self) }
+    {
+        let Row { mut creds, attrs } = self;
+        creds.insert(slot, cred)?;
+        Ok(Row { creds, attrs })
+    }
+
+    /// Takes away the credential of the slot.
+    pub fn without(self, slot: u8) -> Row
+        ensures { result ≡ without_cred slot self }
+    {
+        let Row { mut creds, attrs } = self;
+        creds.remove(&slot);
+        Row { creds, attrs }
+    }
+
+    /// Gives the attribute these values, in place of what stood there.
+    pub fn with_attr(self, attr: Name, values: Values) -> Result<Row, NoMemory>
+        requires { IsTrue (has_attr_room attr self) }
+        ensures { IfOk result (λ row. row ≡ with_attr attr values self) }
+    {
+        let Row { creds, mut attrs } = self;
+        attrs.insert(attr, values)?;
+        Ok(Row { creds, attrs })
+    }
+
+    /// Takes away the attribute.
+    pub fn without_attr(self, attr: &Name) -> Row
+        ensures { result ≡ without_attr attr.now self }
+    {
+        let Row { creds, mut attrs } = self;
+        attrs.remove(attr);
+        Row { creds, attrs }
+    }
+    /// An equal identity.
+    pub fn copy(&self, alloc: Global) -> Result<Row, NoMemory>
+        ensures { IfOk result (λ copy. copy ≡ self.now) }
+    {
+        Ok(Row {
+            creds: copy_creds(alloc, &self.creds)?,
+            attrs: copy_attrs(alloc, &self.attrs)?,
+        })
     }
 }

@@ -1,5 +1,5 @@
 -- How a line of a script is read: its words, its verb and its arguments, or its first fault.
-use Rattle.std.specs.Prelude.{ℕ, ◌-◌, ◌^◌, ◌==◌, ◌||◌, ◌&&◌, Bool, nat_lt, nat_le, if◌then◌else◌, not, List, [], ◌∷◌, length, codes, Option, Some, None, Result, Ok, Err}
+use Rattle.std.specs.Prelude.{ℕ, ◌+◌, ◌-◌, ◌^◌, ◌==◌, ◌||◌, ◌&&◌, Bool, nat_lt, nat_le, if◌then◌else◌, not, List, [], ◌∷◌, length, codes, Option, Some, None, Result, Ok, Err}
 use Rattle.std.specs.List.{list_all}
 use Rattle.std.specs.Option.{ok_or}
 use Rattle.std.specs.Str.{bytes_eq}
@@ -17,6 +17,7 @@ use Rattle.ely_row.specs.declared.cred.CredFault.TheVariants.{Kind}
 use Rattle.ely_row.specs.declared.edit.Edit.TheVariants as edits
 use Rattle.ely_row.specs.declared.mech.Mech.{Mech}
 use Rattle.ely_row.specs.declared.mech.Mech.TheVariants as mechs
+use Rattle.ely_row.specs.Attributes.{is_values}
 use Rattle.ely_row.specs.Creds.{is_kind, cred_of}
 use Rattle.ely_script.specs.declared.command.Command.{Command}
 use Rattle.ely_script.specs.declared.command.LineError.{LineError}
@@ -60,6 +61,13 @@ two_of words = do
   second ← one_of first.1
   Ok (first.0, second)
 
+-- exactly three arguments
+abbrev pub three_of : List (List ℕ) → Result (List ℕ × List ℕ × List ℕ) BadLine
+three_of words = do
+  first ← first_of words
+  last ← two_of first.1
+  Ok (first.0, last.0, last.1)
+
 -- exactly five arguments
 abbrev pub five_of : List (List ℕ) → Result (List ℕ × List ℕ × List ℕ × List ℕ × List ℕ) BadLine
 five_of words = do
@@ -68,6 +76,10 @@ five_of words = do
   third ← first_of second.1
   last ← two_of third.1
   Ok (first.0, second.0, third.0, last.0, last.1)
+
+-- as many arguments as an attribute may have values: 1 to 64
+abbrev pub some_of : List (List ℕ) → Result (List (List ℕ)) BadLine
+some_of words = if is_values words then Ok words else Err bad.Arity
 
 -- the number up to max that the word at that place is
 abbrev pub number_at : ℕ → ℕ → List ℕ → Result ℕ BadLine
@@ -85,28 +97,91 @@ coded_at place word = refused_as (λ f. bad.Word place) (read_word_of word)
 abbrev pub name_at : ℕ → List ℕ → Result (List ℕ) BadLine
 name_at place word = coded_at place word >>= λ bytes. refused_as (λ f. bad.Word place) (name_of bytes)
 
+-- the names that the coded words from that place on stand for
+abbrev pub names_at : ℕ → List (List ℕ) → Result (List (List ℕ)) BadLine
+names_at place [] = Ok []
+names_at place (word ∷ words) =
+    name_at place word >>= λ name.
+    names_at (place + 1) words >>= λ names.
+    Ok (name ∷ names)
+
+-- the identity that the third and the fourth word name: a realm and a name there
+abbrev pub place_at : List ℕ → List ℕ → Result (List ℕ × List ℕ) BadLine
+place_at realm name = do
+  r ← name_at 3 realm
+  n ← name_at 4 name
+  Ok (r, n)
+
 -- add REALM NAME
 abbrev pub add_of : List (List ℕ) → Result Verb BadLine
 add_of args = do
   words ← two_of args
-  realm ← name_at 3 words.0
-  name ← name_at 4 words.1
-  Ok (verbs.Change (edits.Add realm name))
+  place ← place_at words.0 words.1
+  Ok (verbs.Change (edits.Add place.0 place.1))
+
+-- remove REALM NAME
+abbrev pub remove_of : List (List ℕ) → Result Verb BadLine
+remove_of args = do
+  words ← two_of args
+  place ← place_at words.0 words.1
+  Ok (verbs.Change (edits.Remove place.0 place.1))
 
 -- a credential of a kind, whose text is a coded word; the kind stands left of the text
 abbrev pub cred_at : List ℕ → List ℕ → Result StoredCred BadLine
 cred_at kind text =
     if is_kind kind then (coded_at 7 text >>= λ bytes. refused_as bad.Cred (cred_of kind bytes)) else Err (bad.Cred Kind)
 
+-- the kinds of credentials that aren't built yet
+abbrev pub is_later_kind : List ℕ → Bool
+is_later_kind kind =
+    bytes_eq kind (codes "scram-sha-1") || bytes_eq kind (codes "scram-sha-256")
+    || bytes_eq kind (codes "digest-md5") || bytes_eq kind (codes "digest-sha-256")
+
+-- nothing, or that this isn't built yet
+abbrev pub built : Bool → Result (Unit {0}) BadLine
+built later = if later then Err bad.NotBuilt else Ok tt
+
 -- set-cred REALM NAME SLOT KIND TEXT
 abbrev pub set_cred_of : List (List ℕ) → Result Verb BadLine
 set_cred_of args = do
   words ← five_of args
-  realm ← name_at 3 words.0
-  name ← name_at 4 words.1
+  known ← built (is_later_kind words.3)
+  place ← place_at words.0 words.1
   slot ← number_at 255 5 words.2
   cred ← cred_at words.3 words.4
-  Ok (verbs.Change (edits.SetCred realm name slot cred))
+  Ok (verbs.Change (edits.SetCred place.0 place.1 slot cred))
+
+-- drop-cred REALM NAME SLOT
+abbrev pub drop_cred_of : List (List ℕ) → Result Verb BadLine
+drop_cred_of args = do
+  words ← three_of args
+  place ← place_at words.0 words.1
+  slot ← number_at 255 5 words.2
+  Ok (verbs.Change (edits.DropCred place.0 place.1 slot))
+
+-- set-attr REALM NAME ATTR VALUE, with 1 to 64 values
+abbrev pub set_attr_of : List (List ℕ) → Result Verb BadLine
+set_attr_of args = do
+  realm ← first_of args
+  name ← first_of realm.1
+  attr ← first_of name.1
+  texts ← some_of attr.1
+  place ← place_at realm.0 name.0
+  what ← name_at 5 attr.0
+  values ← names_at 6 texts
+  Ok (verbs.Change (edits.SetAttr place.0 place.1 what values))
+
+-- drop-attr REALM NAME ATTR
+abbrev pub drop_attr_of : List (List ℕ) → Result Verb BadLine
+drop_attr_of args = do
+  words ← three_of args
+  place ← place_at words.0 words.1
+  what ← name_at 5 words.2
+  Ok (verbs.Change (edits.DropAttr place.0 place.1 what))
+
+-- reload REALM USERS GROUPS, which isn't built yet
+abbrev pub reload_of : List (List ℕ) → Result Verb BadLine
+reload_of args = three_of args >>= λ words. Err bad.NotBuilt
 
 -- the mechanism that the fourth word names
 abbrev pub mech_at : List ℕ → Result Mech BadLine
@@ -125,12 +200,19 @@ abbrev pub nonce_at : Option (List ℕ) → Result (Option (List ℕ)) BadLine
 nonce_at None = Ok None
 nonce_at (Some word) = if is_nonce word then Ok (Some word) else Err (bad.Word 5)
 
+-- the mechanisms that aren't built yet
+abbrev pub is_later_mech : List ℕ → Bool
+is_later_mech word =
+    bytes_eq word (codes "SCRAM-SHA-1") || bytes_eq word (codes "SCRAM-SHA-256")
+    || bytes_eq word (codes "DIGEST") || bytes_eq word (codes "DIGEST-SHA-256")
+
 -- open CTX MECH, or open CTX MECH NONCE
 abbrev pub open_of : List (List ℕ) → Result Verb BadLine
 open_of args = do
   first ← first_of args
   second ← first_of first.1
   third ← last_of second.1
+  known ← built (is_later_mech second.0)
   ctx ← ctx_at 3 first.0
   mech ← mech_at second.0
   opening ← nonce_at third
@@ -150,6 +232,22 @@ plain_verb_of args = do
   message ← message_at words.1
   Ok (verbs.Plain ctx message)
 
+-- first, or final, CTX and the rest of the line, which isn't built yet; the rest needs at least the space before it
+abbrev pub scram_of : List (List ℕ) → Result Verb BadLine
+scram_of args = do
+  ctx ← first_of args
+  rest ← first_of ctx.1
+  Err bad.NotBuilt
+
+-- digest CTX METHOD TARGET and the rest of the line, which isn't built yet
+abbrev pub digest_of : List (List ℕ) → Result Verb BadLine
+digest_of args = do
+  ctx ← first_of args
+  method ← first_of ctx.1
+  target ← first_of method.1
+  rest ← first_of target.1
+  Err bad.NotBuilt
+
 -- authorize CTX
 abbrev pub authorize_of : List (List ℕ) → Result Verb BadLine
 authorize_of args = do
@@ -164,6 +262,20 @@ succeed_of args = do
   ctx ← ctx_at 3 word
   Ok (verbs.Succeed ctx)
 
+-- fail CTX
+abbrev pub fail_of : List (List ℕ) → Result Verb BadLine
+fail_of args = do
+  word ← one_of args
+  ctx ← ctx_at 3 word
+  Ok (verbs.Fail ctx)
+
+-- close CTX
+abbrev pub close_of : List (List ℕ) → Result Verb BadLine
+close_of args = do
+  word ← one_of args
+  ctx ← ctx_at 3 word
+  Ok (verbs.Close ctx)
+
 -- a permission: a coded word of 1 to 255 bytes
 abbrev pub permission_at : List ℕ → Result (List ℕ) BadLine
 permission_at word = coded_at 4 word >>= λ bytes. (if nat_le 1 (length bytes) && nat_le (length bytes) 255 then Ok bytes else Err (bad.Word 4))
@@ -176,17 +288,37 @@ allows_of args = do
   wanted ← permission_at words.1
   Ok (verbs.Allows ctx wanted)
 
+-- what the word and the arguments of an edit ask for; no other verb is known
+abbrev pub edit_of : List ℕ → List (List ℕ) → Result Verb BadLine
+edit_of word args =
+    if bytes_eq word (codes "add") then add_of args
+    else (if bytes_eq word (codes "remove") then remove_of args
+    else (if bytes_eq word (codes "set-cred") then set_cred_of args
+    else (if bytes_eq word (codes "drop-cred") then drop_cred_of args
+    else (if bytes_eq word (codes "set-attr") then set_attr_of args
+    else (if bytes_eq word (codes "drop-attr") then drop_attr_of args
+    else (if bytes_eq word (codes "reload") then reload_of args
+    else Err bad.Verb))))))
+
+-- the same, where the word may also be one by which a login is opened and shows who it is
+abbrev pub login_of : List ℕ → List (List ℕ) → Result Verb BadLine
+login_of word args =
+    if bytes_eq word (codes "open") then open_of args
+    else (if bytes_eq word (codes "plain") then plain_verb_of args
+    else (if bytes_eq word (codes "first") then scram_of args
+    else (if bytes_eq word (codes "final") then scram_of args
+    else (if bytes_eq word (codes "digest") then digest_of args
+    else edit_of word args))))
+
 -- what a verb's word and its arguments ask for
 unfoldable pub verb_of : List ℕ → List (List ℕ) → Result Verb BadLine
 verb_of word args =
-    if bytes_eq word (codes "add") then add_of args
-    else (if bytes_eq word (codes "set-cred") then set_cred_of args
-    else (if bytes_eq word (codes "open") then open_of args
-    else (if bytes_eq word (codes "plain") then plain_verb_of args
-    else (if bytes_eq word (codes "authorize") then authorize_of args
+    if bytes_eq word (codes "authorize") then authorize_of args
     else (if bytes_eq word (codes "succeed") then succeed_of args
+    else (if bytes_eq word (codes "fail") then fail_of args
+    else (if bytes_eq word (codes "close") then close_of args
     else (if bytes_eq word (codes "allows") then allows_of args
-    else Err bad.Verb))))))
+    else login_of word args))))
 
 -- the line of this actor, or its fault
 abbrev pub line_by : ℕ → Result Verb BadLine → Line

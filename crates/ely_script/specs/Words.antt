@@ -44,6 +44,7 @@ is_accepted _ = false
 abbrev pub cache_word : Outcome → CacheWord
 cache_word (outcomes.Pinned version) = caches.Dash
 cache_word outcomes.Named = caches.Dash
+cache_word (outcomes.Challenge text) = caches.Dash
 cache_word _ = caches.None
 
 -- each step's number, to tell steps apart

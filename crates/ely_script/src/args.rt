@@ -1,12 +1,14 @@
 //! The words of a line behind its verb, taken from left to right.
 
-ghost use Rattle.std.specs.Prelude.{◌≡◌, ◌-◌, ◌^◌, ◌≤◌, IfOk};
+ghost use Rattle.std.specs.Prelude.{◌≡◌, ◌-◌, ◌^◌, ◌≤◌, IsTrue, IfOk};
 ghost use Rattle.std.specs.Option.{option_map};
 ghost use Rattle.ely_base.specs.Refused.{Gives};
-ghost use Rattle.ely_script.specs.Reading.{first_of, last_of, none_of, one_of, two_of, five_of, number_at, ctx_at, coded_at, name_at};
+ghost use Rattle.ely_row.specs.Attributes.{is_values};
+ghost use Rattle.ely_script.specs.Reading.{first_of, last_of, none_of, one_of, two_of, three_of, five_of, some_of, number_at, ctx_at, coded_at, name_at, names_at};
 
 use crate::outcome::BadLine;
-use ely_base::{Bytes, CtxId, Name, Refused, cut_at, read_number, read_word};
+use ely_base::{Bytes, CtxId, Name, Refused, count_of, cut_at, read_number, read_word};
+use ely_row::Values;
 use std::alloc::Global;
 use std::marker::Model;
 
@@ -115,6 +117,15 @@ impl<'a> Args<'a> {
         Ok((first, second))
     }
 
+    /// Exactly three words.
+    pub(crate) fn three(self) -> Result<(Word<'a>, Word<'a>, Word<'a>), BadLine>
+        ensures { result ≡ three_of self.entry }
+    {
+        let (first, rest) = self.first()?;
+        let (second, third) = rest.two()?;
+        Ok((first, second, third))
+    }
+
     /// Exactly five words.
     pub(crate) fn five(self) -> Result<(Word<'a>, Word<'a>, Word<'a>, Word<'a>, Word<'a>), BadLine>
         ensures { result ≡ five_of self.entry }
@@ -124,6 +135,37 @@ impl<'a> Args<'a> {
         let (third, rest) = rest.first()?;
         let (fourth, fifth) = rest.two()?;
         Ok((first, second, third, fourth, fifth))
+    }
+
+    /// The words, where they are 1 to 64.
+    pub(crate) fn some(self) -> Result<Args<'a>, BadLine>
+        ensures { result ≡ some_of self.entry }
+    {
+        match self.rest {
+            Some(bytes) if count_of(bytes, b' ') < 64 => Ok(Args { rest: Some(bytes) }),
+            _ => Err(BadLine::Arity),
+        }
+    }
+
+    /// The names that the words stand for, the first of which is the sixth of its line.
+    pub(crate) fn values(self, alloc: Global) -> Result<Values, Refused<BadLine>>
+        requires { IsTrue (is_values self) }
+        ensures { Gives result (names_at 6 self.entry) }
+    {
+        let mut names = Vec::new(alloc);
+        let mut place = 6;
+        let mut left = self.rest;
+        while let Some(bytes) = left {
+            let (word, behind) = cut_at(bytes, b' ');
+            let name = Word { bytes: word }.name(alloc, place)?;
+            names.push(name)?;
+            place += 1;
+            left = behind;
+        }
+        match Values::read(names) {
+            Ok(values) => Ok(values),
+            Err(_) => Err(Refused::Fault(BadLine::Arity)),
+        }
     }
 }
 

@@ -19,3 +19,6 @@ pub use outcome::{BadLine, Outcome};
 pub use print::{print_numbered, print_step};
 pub use read::read_line;
 pub use word::{CacheWord, StateWord, StepWord, mech_word};
+
+#[cfg(test)]
+mod tests;

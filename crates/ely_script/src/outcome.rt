@@ -117,7 +117,7 @@ impl Outcome {
         ensures { result ≡ cache_word self.now }
     {
         match self {
-            Outcome::Pinned(_) | Outcome::Named => CacheWord::Dash,
+            Outcome::Pinned(_) | Outcome::Named | Outcome::Challenge(_) => CacheWord::Dash,
             _ => CacheWord::None,
         }
     }

@@ -5,8 +5,8 @@ use Rattle.ely_script.specs.declared.word.StateWord.TheVariants.{Proved, Failed}
 use Rattle.ely_script.specs.declared.outcome.Outcome.TheVariants as outcomes
 use Rattle.ely_domain.proofs.checking.check2.Goals as goal
 
-pub verdict-requires : goal.verdict-requires
-verdict-requires c = (c.in-Some.ensures.sound c.args.edits.now c.requires).past
+pub verdict-requires-clause-past : goal.verdict-requires-clause-past
+verdict-requires-clause-past c = (c.in-Some.ensures.sound c.args.edits.now c.requires.sound).past
 
 pub returns-then-not-branch-clause-ok : goal.returns-then-not-branch-clause-ok
 returns-then-not-branch-clause-ok c =
@@ -15,7 +15,7 @@ returns-then-not-branch-clause-ok c =
     found.answers _ _ (rw refuted (ap (λ live. (outcomes.Password, live)) (sym (c.set_state.ensures.is _ found.is))))
 
 pub returns-then-not-branch-clause-sound : goal.returns-then-not-branch-clause-sound
-returns-then-not-branch-clause-sound c = c.set_state.ensures.sound c.args.edits.now c.requires refl
+returns-then-not-branch-clause-sound c = c.set_state.ensures.sound c.args.edits.now c.requires.sound refl
 
 pub returns-clause-ok : goal.returns-clause-ok
 returns-clause-ok c =
@@ -24,4 +24,4 @@ returns-clause-ok c =
     found.answers _ _ (rw proved (ap (λ live. (outcomes.Proved None, live)) (sym (c.set_state-2.ensures.is _ found.is))))
 
 pub returns-clause-sound : goal.returns-clause-sound
-returns-clause-sound c = c.set_state-2.ensures.sound c.args.edits.now c.requires refl
+returns-clause-sound c = c.set_state-2.ensures.sound c.args.edits.now c.requires.sound refl

@@ -7,10 +7,10 @@ use Rattle.std.proofs.lemmas.Option.{same_Some}
 use Rattle.ely_domain.proofs.granting.authorize.Goals as goal
 
 pub grants-requires : goal.grants-requires
-grants-requires c = past_of _ _ _ (c.in-Ok.ensures.sound c.args.edits.now c.requires).past c.in-Some.is
+grants-requires c = past_of _ _ _ (c.in-Ok.ensures.sound c.args.edits.now c.requires.sound).past c.in-Some.is
 
-pub prepared_for-requires : goal.prepared_for-requires
-prepared_for-requires c = past_of _ _ _ (c.in-Ok.ensures.sound c.args.edits.now c.requires).past c.in-Some.is
+pub prepared_for-requires-clause-version : goal.prepared_for-requires-clause-version
+prepared_for-requires-clause-version c = past_of _ _ _ (c.in-Ok.ensures.sound c.args.edits.now c.requires.sound).past c.in-Some.is
 
 pub returns-clause-ok : goal.returns-clause-ok
 returns-clause-ok c =
@@ -22,7 +22,7 @@ returns-clause-ok c =
 pub returns-clause-sound : goal.returns-clause-sound
 returns-clause-sound c =
     let found = c.in-Ok.ensures.found in
-    c.set_prepared.ensures.sound c.args.edits.now c.requires
+    c.set_prepared.ensures.sound c.args.edits.now c.requires.sound
     (λ l is.
     let same = same_Some _ _ (sym found.is ∙ is) in
     rw (← same) (rw c.in-Some.is (ap Some c.in_ok-prepared.ensures)))

@@ -1,0 +1,163 @@
+use crate::run;
+use ely_io::{Failed, MemSink, MemSource, Sink, Source};
+use std::test::Fail;
+
+/// What a run on these words and this input writes, with its status as the last byte.
+fn ran(rt: &HostRuntime, words: &[&str], input: &[u8]) -> Result<Vec<u8>, Fail> {
+    let mut list = Vec::new(rt.alloc());
+    for word in words {
+        list.push(String::from_str(rt.alloc(), word)?)?;
+    }
+    let mut source = MemSource::new(
+        input.to_vec(rt.alloc())?,
+        Vec::new(rt.alloc()),
+        Vec::new(rt.alloc()),
+    );
+    let mut sink = MemSink::new(rt.alloc(), Vec::new(rt.alloc()), Vec::new(rt.alloc()));
+    let status = run(rt.alloc(), &list, &mut source, &mut sink);
+    let mut shown = sink.bytes().to_vec(rt.alloc())?;
+    shown.push(b'0' + status.min(9))?;
+    Ok(shown)
+}
+
+const REPLAY: [&str; 2] = ["elydom", "replay"];
+
+#[test]
+fn an_empty_script_prints_nothing(rt: HostRuntime) -> Result<(), Fail> {
+    assert_eq!(rt; ran(&rt, &REPLAY, b"{}\n")?.as_slice(), b"0".as_slice());
+    assert_eq!(rt; ran(&rt, &REPLAY, b"{}")?.as_slice(), b"0".as_slice());
+    Ok(())
+}
+
+#[test]
+fn other_words_are_refused(rt: HostRuntime) -> Result<(), Fail> {
+    assert_eq!(rt;
+        ran(&rt, &["elydom"], b"{}\n")?.as_slice(),
+        b"words\n2".as_slice()
+    );
+    assert_eq!(rt;
+        ran(&rt, &["elydom", "replay", "--workers", "2"], b"{}\n")?.as_slice(),
+        b"words\n2".as_slice()
+    );
+    assert_eq!(rt;
+        ran(&rt, &["elydom", "race"], b"{}\n")?.as_slice(),
+        b"words\n2".as_slice()
+    );
+    Ok(())
+}
+
+#[test]
+fn another_first_line_is_refused(rt: HostRuntime) -> Result<(), Fail> {
+    for input in [
+        b"{\"x\":1}\n".as_slice(),
+        b"".as_slice(),
+        b"\n{}\n".as_slice(),
+    ] {
+        assert_eq!(rt;
+            ran(&rt, &REPLAY, input)?.as_slice(),
+            b"config / not-built\n3".as_slice()
+        );
+    }
+    Ok(())
+}
+
+const LOGIN: &[u8] = b"{}
+0 add main user
+0 set-cred main user 1 clear pencil
+0 open 1 PLAIN
+0 plain 1 AHVzZXIAcGVuY2ls
+0 authorize 1
+0 succeed 1
+0 allows 1 login
+0 allows 1 run-as:bob
+";
+
+const ESTABLISHED: &[u8] = b"1 0 1 add ok 1
+2 0 2 set-cred ok 2
+3 0 3 open ok 1
+4 0 4 name1 pinned 2 -
+5 0 4 name2 named -
+6 0 4 check1 ok
+7 0 4 check2 proved
+8 0 5 authorize authorized
+9 0 6 succeed established 2 main user roles=
+10 0 7 allows yes
+11 0 8 allows no
+";
+
+#[test]
+fn a_password_establishes_an_identity(rt: HostRuntime) -> Result<(), Fail> {
+    let shown = ran(&rt, &REPLAY, LOGIN)?;
+    assert_eq!(rt; shown.len(), ESTABLISHED.len() + 1);
+    assert_eq!(rt; &shown[..ESTABLISHED.len()], ESTABLISHED);
+    assert_eq!(rt; shown[ESTABLISHED.len()], b'0');
+    Ok(())
+}
+
+/// Gives the first 19 bytes of the login's input and fails from then on.
+#[derive(Drop)]
+struct Broken {
+    calls: u64,
+}
+
+impl Source for Broken {
+    ghost use Rattle.std.specs.Prelude.{None};
+
+    ghost left = { λ _. None };
+
+    ghost faults = { λ s. s.calls };
+
+    fn read(&mut self, buf: &mut [u8]) -> Result<usize, Failed> {
+        let first = self.calls == 0;
+        self.calls = self.calls.saturating_add(1);
+        if !first || buf.len() < 19 {
+            return Err(Failed);
+        }
+        buf[..19].copy_from_slice(&LOGIN[..19]);
+        Ok(19)
+    }
+}
+
+#[test]
+fn a_line_is_answered_before_the_next_is_read(rt: HostRuntime) -> Result<(), Fail> {
+    let words = vec![in rt.alloc();
+        String::from_str(rt.alloc(), "elydom")?,
+        String::from_str(rt.alloc(), "replay")?,
+    ]?;
+    let mut source = Broken { calls: 0 };
+    let mut sink = MemSink::new(rt.alloc(), Vec::new(rt.alloc()), Vec::new(rt.alloc()));
+    assert_eq!(rt; run(rt.alloc(), &words, &mut source, &mut sink), 4);
+    assert_eq!(rt; sink.bytes(), b"1 0 1 add ok 1\n".as_slice());
+    Ok(())
+}
+
+/// What a failing sink holds after the login's run, with the status.
+fn broken_sink(rt: &HostRuntime, takes: Vec<usize>) -> Result<Vec<u8>, Fail> {
+    let words = vec![in rt.alloc();
+        String::from_str(rt.alloc(), "elydom")?,
+        String::from_str(rt.alloc(), "replay")?,
+    ]?;
+    let mut source = MemSource::new(
+        LOGIN.to_vec(rt.alloc())?,
+        Vec::new(rt.alloc()),
+        Vec::new(rt.alloc()),
+    );
+    let mut sink = MemSink::new(rt.alloc(), takes, Vec::new(rt.alloc()));
+    let status = run(rt.alloc(), &words, &mut source, &mut sink);
+    let mut shown = sink.bytes().to_vec(rt.alloc())?;
+    shown.push(b'0' + status.min(9))?;
+    Ok(shown)
+}
+
+#[test]
+fn a_failing_sink_holds_a_front(rt: HostRuntime) -> Result<(), Fail> {
+    assert_eq!(rt;
+        broken_sink(&rt, vec![in rt.alloc(); 5, 0]?)?.as_slice(),
+        b"1 0 15".as_slice()
+    );
+    assert_eq!(rt;
+        broken_sink(&rt, vec![in rt.alloc(); 0]?)?.as_slice(),
+        b"5".as_slice()
+    );
+    Ok(())
+}
