@@ -1,15 +1,14 @@
 -- The lines of a source that tells its bytes.
-use Rattle.std.proofs.Common.{◌≡◌, ℕ, ◌+◌, ◌<◌, ◌≤◌, Bool, true, false, List, [], ◌∷◌, ◌++◌, length, Option, Some, None, Result, Ok, Err, refl, sym, ap, subst, ◌∙◌, arith, append_assoc}
+use Rattle.std.proofs.Common.{◌≡◌, ℕ, Bool, true, false, List, [], ◌∷◌, ◌++◌, Some, None, Result, Ok, Err, refl, sym, ap, subst, ◌∙◌, append_assoc}
 use Rattle.std.proofs.lemmas.List.{append-nil}
-use Rattle.std.specs.Io.KnownBytes.{Consumes, IsAtEnd}
 use Rattle.ely_base.specs.declared.refused.Refused.{Refused}
 use Rattle.ely_base.specs.declared.refused.Refused.TheVariants.{Fault, NoMemory}
 use Rattle.ely_io.specs.declared.line.Line.{Line}
 use Rattle.ely_io.specs.declared.line.Line.TheVariants.{End, Text, TooLong}
 use Rattle.ely_io.specs.declared.line.LineFault.{LineFault}
 use Rattle.ely_io.specs.Lines.{HasNoLf, lines_of}
-use Rattle.ely_io.specs.Reading.{Reader, most, IsGiven, IsGivenAt, GivesLine, Next}
-use Rattle.ely_io.specs.Order.{IsFirst, GivesFirst, GivesLinesInOrder}
+use Rattle.ely_io.specs.Reading.{Reader, IsGiven, IsGivenAt, GivesLine}
+use Rattle.ely_io.specs.Order.{IsFirst, GivesLinesInOrder}
 use Rattle.ely_io.proofs.LineLaws.{lines_of-line, lines_of-last}
 
 -- a line that was given is the first of all that was to come

@@ -1,11 +1,9 @@
 -- The steps of the loop of a reader of lines.
-use Rattle.std.proofs.Common.{◌≡◌, ◌⊎◌, ℕ, zero, suc, ◌+◌, ◌-◌, ◌<◌, ◌≤◌, Bool, true, false, List, [], ◌∷◌, ◌++◌, length, take, drop, Option, Some, None, Result, Ok, Err, refl, sym, ap, subst, ◌∙◌, arith, inl, inr, ⊎_elim, position, append_assoc, length-append, length-take, length-drop, drop-drop}
+use Rattle.std.proofs.Common.{◌≡◌, ◌⊎◌, ℕ, ◌+◌, ◌-◌, ◌<◌, ◌≤◌, Bool, true, false, List, [], ◌++◌, length, take, drop, Option, Some, None, Ok, Err, refl, sym, ap, subst, ◌∙◌, arith, ⊎_elim, position, append_assoc, length-append, drop-drop}
 use Rattle.std.proofs.Math.Seq.{take_at}
 use Rattle.std.proofs.lemmas.List.{append-nil, drop-take}
 use Rattle.std.proofs.KnownBytes.{Consumes-trans, Consumes-kept}
 use Rattle.std.specs.Io.KnownBytes.{Consumes, IsAtEnd, Keeps}
-use Rattle.ely_base.specs.declared.refused.NoMemory.{NoMemory}
-use Rattle.ely_base.specs.declared.refused.Refused.{Refused}
 use Rattle.ely_base.specs.declared.refused.Refused.TheVariants.{Fault}
 use Rattle.ely_io.specs.declared.line.Line.{Line}
 use Rattle.ely_io.specs.declared.line.Line.TheVariants.{End, Text, TooLong}
@@ -13,10 +11,10 @@ use Rattle.ely_io.specs.declared.line.LineFault.{LineFault}
 use Rattle.ely_io.specs.declared.line.LineFault.TheVariants.{Read, Spent}
 use Rattle.ely_io.specs.Causes.{Rose}
 use Rattle.ely_io.specs.Lines.{HasNoLf, is_lf}
-use Rattle.ely_io.specs.Reading.{Reader, most, IsGiven, IsGivenAt, GivesLine, Next}
+use Rattle.ely_io.specs.Reading.{Reader, most, IsGiven, IsGivenAt, Next}
 use Rattle.ely_io.specs.Steps.{SetsAside, EndsLine, EndsInput}
 use Rattle.ely_io.proofs.Going.{Going, IsFront}
-use Rattle.ely_io.proofs.LineLemmas.{no_lf_append, none_found, FoundAt, found_at}
+use Rattle.ely_io.proofs.LineLemmas.{no_lf_append, none_found, found_at}
 
 -- a front that is kept, or is too long, and more bytes
 front_more : (limit : ℕ) (front kept more : List ℕ) (long : Bool) → IsFront long limit front kept → (long ≡ true) ⊎ (limit < length (kept ++ more)) → limit < length (front ++ more)

@@ -1,5 +1,5 @@
 -- The message of PLAIN (RFC 4616 section 2): message = [authzid] NUL authcid NUL passwd
-use Rattle.std.specs.Prelude.{ℕ, ◌≡◌, ◌<◌, ◌-◌, ◌==◌, if◌then◌else◌, nat_lt, List, [], ◌∷◌, ◌++◌, length, Option, Some, None, Result, Ok, Err}
+use Rattle.std.specs.Prelude.{ℕ, ◌-◌, ◌==◌, if◌then◌else◌, nat_lt, List, [], ◌∷◌, length, Option, Some, None, Result, Ok, Err}
 use Rattle.std.specs.Str.Lossy.{utf8_valid_len}
 use Rattle.ely_base.specs.Refused.{◌>>=◌, refused_as}
 use Rattle.ely_base.specs.Names.{name_of}

@@ -1,9 +1,10 @@
 use crate::{
     BadLine, CacheWord, Entry, LineError, Outcome, StateWord, StepWord, Verb, print_step, read_line,
 };
-use ely_base::{Bytes, Items, Name, NameFault, Refused, Serial, Version};
+use ely_base::{Bytes, Items, Name, NameFault, NoMemory, Refused, Serial, Version};
 use ely_plain::PlainFault;
 use ely_row::{CredFault, Edit, EditFault, Mech, PipeFault, Place, PropFault};
+use std::alloc::Global;
 use std::test::Fail;
 
 /// The word of a verb in a line.
@@ -68,8 +69,8 @@ fn each_verb_is_read_and_copied(rt: HostRuntime) -> Result<(), Fail> {
 }
 
 #[test]
-fn the_first_fault_is_told_with_its_place(rt: HostRuntime) {
-    let lines: [(&[u8], u32, BadLine); 60] = [
+fn lines_without_an_actor_or_a_verb_are_refused(rt: HostRuntime) {
+    let lines: [(&[u8], u32, BadLine); 10] = [
         (b"", 0, BadLine::NoActor),
         (b"   ", 0, BadLine::NoActor),
         (b"00 add main u", 0, BadLine::NoActor),
@@ -80,72 +81,6 @@ fn the_first_fault_is_told_with_its_place(rt: HostRuntime) {
         (b"7 Add main u", 7, BadLine::Verb),
         (b"7 %61dd main u", 7, BadLine::Verb),
         (b"7 add\r main u", 7, BadLine::Verb),
-        (b"7 add main", 7, BadLine::Arity),
-        (b"7 add  main u", 7, BadLine::Arity),
-        (b"7 add main u ", 7, BadLine::Arity),
-        (b"7 add % %", 7, BadLine::Word(3)),
-        (b"7 add  u", 7, BadLine::Word(3)),
-        (b"7 remove main ", 7, BadLine::Word(4)),
-        (b"7 remove main u%", 7, BadLine::Word(4)),
-        (b"7 remove main u%4", 7, BadLine::Word(4)),
-        (b"7 remove main \0", 7, BadLine::Word(4)),
-        (b"7 remove main %0a", 7, BadLine::Word(4)),
-        (b"7 remove main \xC3\x28", 7, BadLine::Word(4)),
-        (b"7 remove", 7, BadLine::Arity),
-        (b"7 set-cred main u 1 clear", 7, BadLine::Arity),
-        (b"7 set-cred main u 256 clear p", 7, BadLine::Number(5)),
-        (b"7 set-cred main u 01 none p", 7, BadLine::Number(5)),
-        (
-            b"7 set-cred main u 1 none %",
-            7,
-            BadLine::Cred(CredFault::Kind),
-        ),
-        (b"7 set-cred main u 1 clear %", 7, BadLine::Word(7)),
-        (
-            b"7 set-cred main u 1 clear ",
-            7,
-            BadLine::Cred(CredFault::Length),
-        ),
-        (
-            b"7 set-cred main u 1 clear %0A",
-            7,
-            BadLine::Cred(CredFault::Text),
-        ),
-        (b"7 set-cred % % x scram-sha-1 %", 7, BadLine::NotBuilt),
-        (b"7 set-cred main u 1 digest-md5", 7, BadLine::Arity),
-        (b"7 drop-cred main u", 7, BadLine::Arity),
-        (b"7 drop-cred main u -1", 7, BadLine::Number(5)),
-        (b"7 drop-cred main % 256", 7, BadLine::Word(4)),
-        (b"7 set-attr main u groups", 7, BadLine::Arity),
-        (b"7 set-attr main u % %", 7, BadLine::Word(5)),
-        (b"7 set-attr main u groups a ", 7, BadLine::Word(7)),
-        (b"7 drop-attr main u", 7, BadLine::Arity),
-        (b"7 drop-attr main u ", 7, BadLine::Word(5)),
-        (b"7 reload main u", 7, BadLine::Arity),
-        (b"7 reload % % %", 7, BadLine::NotBuilt),
-        (b"7 open 1", 7, BadLine::Arity),
-        (b"7 open x plain", 7, BadLine::Number(3)),
-        (b"7 open 1 plain", 7, BadLine::Word(4)),
-        (b"7 open 1 PLAIN a,b", 7, BadLine::Word(5)),
-        (b"7 open 1 PLAIN ", 7, BadLine::Word(5)),
-        (b"7 open x DIGEST-SHA-256 a,b", 7, BadLine::NotBuilt),
-        (b"7 open 1 SCRAM-SHA-1 a b", 7, BadLine::Arity),
-        (b"7 plain 1 =", 7, BadLine::Word(4)),
-        (b"7 plain 1 ", 7, BadLine::Plain(PlainFault::NoNul(0))),
-        (b"7 plain 1 AABw", 7, BadLine::Plain(PlainFault::EmptyName)),
-        (
-            b"7 plain 1 CgB1AHA=",
-            7,
-            BadLine::Plain(PlainFault::Name(NameFault::Barred(0))),
-        ),
-        (b"7 first 1", 7, BadLine::Arity),
-        (b"7 first x ", 7, BadLine::NotBuilt),
-        (b"7 final x c=biws, r=", 7, BadLine::NotBuilt),
-        (b"7 digest 1 GET /", 7, BadLine::Arity),
-        (b"7 digest x  / ", 7, BadLine::NotBuilt),
-        (b"7 authorize 4294967296", 7, BadLine::Number(3)),
-        (b"7 close 1\r", 7, BadLine::Number(3)),
-        (b"7 allows 1 ", 7, BadLine::Word(4)),
     ];
     for (line, actor, bad) in lines {
         let wanted = Some(Refused::Fault(LineError::Bad { actor, bad }));
@@ -153,13 +88,90 @@ fn the_first_fault_is_told_with_its_place(rt: HostRuntime) {
     }
 }
 
+#[test]
+fn edits_are_refused_by_their_first_fault(rt: HostRuntime) {
+    let lines: [(&[u8], BadLine); 31] = [
+        (b"7 add main", BadLine::Arity),
+        (b"7 add  main u", BadLine::Arity),
+        (b"7 add main u ", BadLine::Arity),
+        (b"7 add % %", BadLine::Word(3)),
+        (b"7 add  u", BadLine::Word(3)),
+        (b"7 remove main ", BadLine::Word(4)),
+        (b"7 remove main u%", BadLine::Word(4)),
+        (b"7 remove main u%4", BadLine::Word(4)),
+        (b"7 remove main \0", BadLine::Word(4)),
+        (b"7 remove main %0a", BadLine::Word(4)),
+        (b"7 remove main \xC3\x28", BadLine::Word(4)),
+        (b"7 remove", BadLine::Arity),
+        (b"7 set-cred main u 1 clear", BadLine::Arity),
+        (b"7 set-cred main u 256 clear p", BadLine::Number(5)),
+        (b"7 set-cred main u 01 none p", BadLine::Number(5)),
+        (
+            b"7 set-cred main u 1 none %",
+            BadLine::Cred(CredFault::Kind),
+        ),
+        (b"7 set-cred main u 1 clear %", BadLine::Word(7)),
+        (
+            b"7 set-cred main u 1 clear ",
+            BadLine::Cred(CredFault::Length),
+        ),
+        (
+            b"7 set-cred main u 1 clear %0A",
+            BadLine::Cred(CredFault::Text),
+        ),
+        (b"7 set-cred % % x scram-sha-1 %", BadLine::NotBuilt),
+        (b"7 set-cred main u 1 digest-md5", BadLine::Arity),
+        (b"7 drop-cred main u", BadLine::Arity),
+        (b"7 drop-cred main u -1", BadLine::Number(5)),
+        (b"7 drop-cred main % 256", BadLine::Word(4)),
+        (b"7 set-attr main u groups", BadLine::Arity),
+        (b"7 set-attr main u % %", BadLine::Word(5)),
+        (b"7 set-attr main u groups a ", BadLine::Word(7)),
+        (b"7 drop-attr main u", BadLine::Arity),
+        (b"7 drop-attr main u ", BadLine::Word(5)),
+        (b"7 reload main u", BadLine::Arity),
+        (b"7 reload % % %", BadLine::NotBuilt),
+    ];
+    for (line, bad) in lines {
+        let wanted = Some(Refused::Fault(LineError::Bad { actor: 7, bad }));
+        assert!(rt; read_line(rt.alloc(), line).err() == wanted);
+    }
+}
+
+#[test]
+fn steps_of_logins_are_refused_by_their_first_fault(rt: HostRuntime) {
+    let lines: [(&[u8], BadLine); 19] = [
+        (b"7 open 1", BadLine::Arity),
+        (b"7 open x plain", BadLine::Number(3)),
+        (b"7 open 1 plain", BadLine::Word(4)),
+        (b"7 open 1 PLAIN a,b", BadLine::Word(5)),
+        (b"7 open 1 PLAIN ", BadLine::Word(5)),
+        (b"7 open x DIGEST-SHA-256 a,b", BadLine::NotBuilt),
+        (b"7 open 1 SCRAM-SHA-1 a b", BadLine::Arity),
+        (b"7 plain 1 =", BadLine::Word(4)),
+        (b"7 plain 1 ", BadLine::Plain(PlainFault::NoNul(0))),
+        (b"7 plain 1 AABw", BadLine::Plain(PlainFault::EmptyName)),
+        (
+            b"7 plain 1 CgB1AHA=",
+            BadLine::Plain(PlainFault::Name(NameFault::Barred(0))),
+        ),
+        (b"7 first 1", BadLine::Arity),
+        (b"7 first x ", BadLine::NotBuilt),
+        (b"7 final x c=biws, r=", BadLine::NotBuilt),
+        (b"7 digest 1 GET /", BadLine::Arity),
+        (b"7 digest x  / ", BadLine::NotBuilt),
+        (b"7 authorize 4294967296", BadLine::Number(3)),
+        (b"7 close 1\r", BadLine::Number(3)),
+        (b"7 allows 1 ", BadLine::Word(4)),
+    ];
+    for (line, bad) in lines {
+        let wanted = Some(Refused::Fault(LineError::Bad { actor: 7, bad }));
+        assert!(rt; read_line(rt.alloc(), line).err() == wanted);
+    }
+}
+
 /// A front, and a text some times behind it.
-fn repeated(
-    alloc: std::alloc::Global,
-    front: &[u8],
-    text: &[u8],
-    count: u32,
-) -> Result<Vec<u8>, Fail> {
+fn repeated(alloc: Global, front: &[u8], text: &[u8], count: u32) -> Result<Vec<u8>, Fail> {
     let mut line = Vec::from_slice(alloc, front)?;
     for _ in 0..count {
         line.extend_from_slice(text)?;
@@ -216,91 +228,120 @@ fn bounds_of_lines_names_and_values_are_exact(rt: HostRuntime) -> Result<(), Fai
     Ok(())
 }
 
-#[test]
-fn each_outcome_is_printed(rt: HostRuntime) -> Result<(), Fail> {
-    let alloc = rt.alloc();
-    let place = Place {
-        realm: Name::read(alloc, b"main")?,
-        name: Name::read(alloc, b"a b")?,
-    };
-    let mut roles = Vec::new(alloc);
-    roles.push(Name::read(alloc, b"r,1")?)?;
-    roles.push(Name::read(alloc, b"r2")?)?;
-    let mut rows: Vec<(Outcome, &[u8])> = Vec::new(alloc);
-    rows.push((Outcome::Bad(BadLine::Cred(CredFault::Turns)), b"cred turns"))?;
-    rows.push((Outcome::Bad(BadLine::Number(3)), b"number 3"))?;
-    rows.push((
-        Outcome::Bad(BadLine::Plain(PlainFault::NotText(4))),
-        b"message text 4",
-    ))?;
-    rows.push((Outcome::Bad(BadLine::NotBuilt), b"not-built"))?;
-    rows.push((Outcome::Changed(Version(9)), b"ok 9"))?;
-    rows.push((
-        Outcome::Refused(EditFault::JournalFull(131072)),
-        b"journal-full 131072",
-    ))?;
-    rows.push((Outcome::Refused(EditFault::AttrsFull), b"attrs-full"))?;
-    rows.push((
-        Outcome::Refused(EditFault::Users(PropFault::TooMany(2))),
-        b"users too-many 2",
-    ))?;
-    rows.push((
-        Outcome::Opened {
-            serial: Serial(1),
-            challenge: None,
-        },
-        b"ok 1",
-    ))?;
-    rows.push((
-        Outcome::Opened {
-            serial: Serial(2),
-            challenge: Some(Bytes::copy_of(alloc, b"Digest x")?),
-        },
-        b"ok 2 Digest x",
-    ))?;
-    rows.push((Outcome::ContextsFull, b"contexts-full 4096"))?;
-    rows.push((Outcome::State(StateWord::Absent), b"state absent"))?;
-    rows.push((
-        Outcome::Mechanism(Mech::DigestSha256),
-        b"mechanism DIGEST-SHA-256",
-    ))?;
-    rows.push((
-        Outcome::Pipe(PipeFault::NoRealm(Bytes::copy_of(alloc, b"a,b")?)),
-        b"pipe no-realm a%2Cb",
-    ))?;
-    rows.push((
-        Outcome::Challenge(Bytes::copy_of(alloc, b"r=1")?),
-        b"challenge r=1",
-    ))?;
-    rows.push((Outcome::Fine, b"ok"))?;
-    rows.push((Outcome::Replayed(1), b"replayed 1"))?;
-    rows.push((Outcome::Proved(None), b"proved"))?;
-    rows.push((
-        Outcome::Proved(Some(Bytes::copy_of(alloc, b"\0")?)),
-        b"proved v=AA==",
-    ))?;
-    rows.push((Outcome::Binding, b"binding e=channel-bindings-dont-match"))?;
-    rows.push((Outcome::Denied(Version(0)), b"denied 0"))?;
-    rows.push((
-        Outcome::Established {
-            version: Version(3),
-            place,
-            roles: Items::of(roles),
-        },
-        b"established 3 main a%20b roles=r%2C1,r2",
-    ))?;
-    for (outcome, text) in rows {
-        let entry = Entry {
-            actor: 5,
-            line: 6,
-            word: StepWord::Check2,
-            outcome,
-            cache: CacheWord::Late,
-        };
-        let mut wanted = Vec::from_slice(alloc, b"4 5 6 check2 ")?;
-        wanted.extend_from_slice(text)?;
-        wanted.extend_from_slice(b" late\n")?;
-        assert_eq!(rt; print_step(alloc, 4, &entry)?.bytes(), wanted.as_slice());
+/// Outcomes without texts, each with what is printed for it.
+fn plain_row(row: u8) -> Option<(Outcome, &'static [u8])> {
+    match row {
+        0 => Some((Outcome::Bad(BadLine::Cred(CredFault::Turns)), b"cred turns")),
+        1 => Some((Outcome::Bad(BadLine::Number(3)), b"number 3")),
+        2 => Some((
+            Outcome::Bad(BadLine::Plain(PlainFault::NotText(4))),
+            b"message text 4",
+        )),
+        3 => Some((Outcome::Bad(BadLine::NotBuilt), b"not-built")),
+        4 => Some((Outcome::Changed(Version(9)), b"ok 9")),
+        5 => Some((
+            Outcome::Refused(EditFault::JournalFull(131072)),
+            b"journal-full 131072",
+        )),
+        6 => Some((Outcome::Refused(EditFault::AttrsFull), b"attrs-full")),
+        7 => Some((
+            Outcome::Refused(EditFault::Users(PropFault::TooMany(2))),
+            b"users too-many 2",
+        )),
+        8 => Some((
+            Outcome::Opened {
+                serial: Serial(1),
+                challenge: None,
+            },
+            b"ok 1",
+        )),
+        9 => Some((Outcome::ContextsFull, b"contexts-full 4096")),
+        10 => Some((Outcome::State(StateWord::Absent), b"state absent")),
+        11 => Some((
+            Outcome::Mechanism(Mech::DigestSha256),
+            b"mechanism DIGEST-SHA-256",
+        )),
+        12 => Some((Outcome::Fine, b"ok")),
+        13 => Some((Outcome::Replayed(1), b"replayed 1")),
+        14 => Some((Outcome::Proved(None), b"proved")),
+        15 => Some((Outcome::Binding, b"binding e=channel-bindings-dont-match")),
+        16 => Some((Outcome::Denied(Version(0)), b"denied 0")),
+        _ => None,
     }
+}
+
+/// The line of a step with this outcome, the fourth step of all.
+fn line_of(alloc: Global, outcome: Outcome) -> Result<Bytes, NoMemory> {
+    let entry = Entry {
+        actor: 5,
+        line: 6,
+        word: StepWord::Check2,
+        outcome,
+        cache: CacheWord::Late,
+    };
+    print_step(alloc, 4, &entry)
+}
+
+/// The same line, of the outcome's text.
+fn wanted(alloc: Global, text: &[u8]) -> Result<Vec<u8>, NoMemory> {
+    let mut line = Vec::from_slice(alloc, b"4 5 6 check2 ")?;
+    line.extend_from_slice(text)?;
+    line.extend_from_slice(b" late\n")?;
+    Ok(line)
+}
+
+#[test]
+fn outcomes_are_printed_with_their_step_and_cache_word(rt: HostRuntime) -> Result<(), Fail> {
+    for i in 0..17 {
+        if let Some((outcome, text)) = plain_row(i) {
+            let line = line_of(rt.alloc(), outcome)?;
+            assert_eq!(rt; line.bytes(), wanted(rt.alloc(), text)?.as_slice());
+        }
+    }
+    Ok(())
+}
+
+#[test]
+fn texts_in_outcomes_are_printed(rt: HostRuntime) -> Result<(), Fail> {
+    let alloc = rt.alloc();
+    let opened = Outcome::Opened {
+        serial: Serial(2),
+        challenge: Some(Bytes::copy_of(alloc, b"Digest x")?),
+    };
+    assert_eq!(rt;
+        line_of(alloc, opened)?.bytes(),
+        wanted(alloc, b"ok 2 Digest x")?.as_slice()
+    );
+    let pipe = Outcome::Pipe(PipeFault::NoRealm(Bytes::copy_of(alloc, b"a,b")?));
+    assert_eq!(rt;
+        line_of(alloc, pipe)?.bytes(),
+        wanted(alloc, b"pipe no-realm a%2Cb")?.as_slice()
+    );
+    let proved = Outcome::Proved(Some(Bytes::copy_of(alloc, b"\0")?));
+    assert_eq!(rt;
+        line_of(alloc, proved)?.bytes(),
+        wanted(alloc, b"proved v=AA==")?.as_slice()
+    );
+    Ok(())
+}
+
+#[test]
+fn an_identity_is_printed_in_words(rt: HostRuntime) -> Result<(), Fail> {
+    let place = Place {
+        realm: Name::read(rt.alloc(), b"main")?,
+        name: Name::read(rt.alloc(), b"a b")?,
+    };
+    let mut roles = Vec::new(rt.alloc());
+    roles.push(Name::read(rt.alloc(), b"r,1")?)?;
+    roles.push(Name::read(rt.alloc(), b"r2")?)?;
+    let established = Outcome::Established {
+        version: Version(3),
+        place,
+        roles: Items::of(roles),
+    };
+    assert_eq!(rt;
+        line_of(rt.alloc(), established)?.bytes(),
+        wanted(rt.alloc(), b"established 3 main a%20b roles=r%2C1,r2")?.as_slice()
+    );
     Ok(())
 }

@@ -3,14 +3,18 @@
 
 use ely_front::run;
 use ely_io::{StdSink, StdSource};
-use std::env;
-use std::io;
 use std::process::ExitCode;
+use std::{env, io};
 
-/// The words of the command line, the program's own name first.
+/// The words of the command line, the program's own name first. Words that aren't UTF-8 are no command, and so no words.
 fn words(rt: &HostRuntime) -> io::Result<Vec<String>> {
     let mut words = Vec::new(rt.alloc());
-    for word in env::args(rt)? {
+    let args = match env::args(rt) {
+        Ok(args) => args,
+        Err(error) if error.kind() == io::ErrorKind::InvalidData => return Ok(words),
+        Err(error) => return Err(error),
+    };
+    for word in args {
         words.push(word)?;
     }
     Ok(words)
