@@ -1,5 +1,5 @@
 -- Journals: each edit was accepted after those before it.
-use Rattle.std.proofs.Common.{◌≡◌, ℕ, ◌+◌, ◌<◌, ◌≤◌, List, [], ◌∷◌, ◌++◌, length, take, drop, get_or, Option, Some, None, refl, sym, ap, subst, ◌∙◌, ◌⊎◌, ⊎_elim, inl, inr, arith, append_assoc, take-append-drop}
+use Rattle.std.proofs.Common.{◌≡◌, ℕ, ◌<◌, List, [], ◌∷◌, ◌++◌, length, take, drop, get_or, None, refl, sym, ap, ◌∙◌, ◌⊎◌, ⊎_elim, inl, inr, append_assoc, take-append-drop}
 use Rattle.ely_row.specs.declared.edit.Edit.{Edit}
 use Rattle.ely_row.specs.Rows.{row, fault}
 use Rattle.ely_row.specs.Accepted.{IsAccepted, Suits}

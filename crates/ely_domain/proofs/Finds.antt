@@ -1,14 +1,8 @@
 -- A context that is found by its id is the login that the machine finds.
-use Rattle.std.proofs.Common.{◌≡◌, ℕ, zero, suc, ◌+◌, ◌<◌, ◌==◌, Bool, true, false, cond, eqb, List, [], ◌∷◌, length, take, map, get_or, Option, Some, None, slice_get, slice_set, refl, sym, ap, ◌∙◌, subst, arith, rules, eq-eqb, add-one}
+use Rattle.std.proofs.Common.{◌≡◌, ℕ, zero, suc, ◌+◌, ◌<◌, Bool, true, false, cond, eqb, List, [], ◌∷◌, length, take, get_or, Some, None, slice_get, slice_set, refl, sym, ap, ◌∙◌, arith, eq-eqb, add-one}
 use Rattle.std.proofs.lemmas.Option.{slice_get_within, slice_get-get_or, same_Some}
-use Rattle.std.proofs.lemmas.Grind.{common_steps}
-use Rattle.std.proofs.lemmas.List.{take_more}
 use Rattle.ely_domain.specs.declared.context.Context.{Context}
-use Rattle.ely_script.specs.declared.word.StateWord.{StateWord}
-use Rattle.ely_script.specs.declared.outcome.Outcome.{Outcome}
-use Rattle.ely_script.specs.declared.outcome.Outcome.TheVariants.{State, Gone}
-use Rattle.ely_script.specs.Words.{same_state}
-use Rattle.ely_domain.specs.Machine.{Login, Answered, login_of, with_login, in_state, carried_in}
+use Rattle.ely_domain.specs.Machine.{Login, login_of, with_login}
 use Rattle.ely_row.specs.declared.edit.Edit.{Edit}
 use Rattle.ely_domain.specs.Contexts.{login, logins, IsSound, AreSound}
 use Rattle.ely_domain.specs.Found.{IsFoundAt}

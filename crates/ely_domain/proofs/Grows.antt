@@ -1,5 +1,5 @@
 -- What a further edit leaves as it was.
-use Rattle.std.proofs.Common.{◌≡◌, ℕ, ◌+◌, ◌<◌, ◌≤◌, Bool, true, false, cond, List, [], ◌∷◌, ◌++◌, length, take, Option, Some, None, leb, refl, sym, ap, ◌∙◌, arith}
+use Rattle.std.proofs.Common.{◌≡◌, ℕ, ◌<◌, ◌≤◌, Bool, true, false, cond, List, [], ◌∷◌, ◌++◌, length, Option, Some, None, leb, refl, ap, ◌∙◌, arith}
 use Rattle.std.specs.Option.{option_map}
 use Rattle.std.proofs.lemmas.List.{take-append-le, length-append}
 use Rattle.std.proofs.lemmas.Bool.Decides.{nat_tests}
@@ -8,8 +8,8 @@ use Rattle.ely_row.specs.declared.edit.EditFault.{EditFault}
 use Rattle.ely_row.specs.declared.edit.EditFault.TheVariants.{JournalFull}
 use Rattle.ely_domain.specs.declared.context.Context.{Context}
 use Rattle.ely_row.specs.declared.place.Place.{Place}
-use Rattle.ely_row.specs.Rows.{row, fault, own_fault}
-use Rattle.ely_domain.specs.Machine.{Pinned, ident, groups}
+use Rattle.ely_row.specs.Rows.{row, fault}
+use Rattle.ely_domain.specs.Machine.{Pinned, ident}
 use Rattle.ely_domain.specs.Contexts.{pinned, prepared_for, IsPast, IsSound, AreSound}
 
 -- the identity at a version stays

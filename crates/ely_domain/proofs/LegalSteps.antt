@@ -1,9 +1,9 @@
 -- A legal history goes on by one step.
-use Rattle.std.proofs.Common.{◌≡◌, List, [], ◌∷◌, ◌++◌}
+use Rattle.std.proofs.Common.{List, [], ◌∷◌, ◌++◌}
 use Rattle.ely_domain.specs.Machine.{Given}
 use Rattle.ely_script.specs.Reading.{Line}
 use Rattle.ely_domain.specs.Replays.{Made}
-use Rattle.ely_domain.specs.Legal.{Point, IsNext, point_after, IsLegalFrom}
+use Rattle.ely_domain.specs.Legal.{Point, point_after, IsLegalFrom}
 
 -- what is legal up to points from which the rest is legal is legal with the rest
 pub legal_append : (given : Given) (lines : List Line) (ends : Point → Type 0) (p : Point) (xs ys : List Made) → IsLegalFrom given lines (λ q. IsLegalFrom given lines ends q ys) p xs → IsLegalFrom given lines ends p (xs ++ ys)

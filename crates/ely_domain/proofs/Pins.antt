@@ -1,5 +1,5 @@
 -- What is answered of a pin.
-use Rattle.std.proofs.Common.{◌≡◌, ℕ, ◌≤◌, Bool, true, false, cond, List, length, Option, Some, None, refl, sym, ap, ◌∙◌, codes}
+use Rattle.std.proofs.Common.{◌≡◌, ℕ, ◌≤◌, true, cond, List, Option, Some, None, refl, codes}
 use Rattle.std.specs.Option.{option_map}
 use Rattle.std.proofs.lemmas.Option.{same_Some}
 use Rattle.ely_row.specs.declared.edit.Edit.{Edit}

@@ -22,7 +22,7 @@ use Rattle.ely_script.specs.declared.word.StepWord.TheVariants as words
 use Rattle.ely_script.specs.declared.outcome.Outcome.{Outcome}
 use Rattle.ely_script.specs.declared.outcome.Outcome.TheVariants as outcomes
 use Rattle.ely_script.specs.Words.{same_state, same_word, state_number, is_accepted}
-use Rattle.ely_domain.specs.Machine.{Given, Machine, Login, Pinned, Answered, login_of, with_login, when_in, when_pinned, when_carried, in_state, carried_in, roles, moved, loading, checking, named_first, named_unless, naming_fault, ident, ready_at, place_of, name1, name2, checked_first, is_carried, check1, judged, verdict, check2, grants, authorize, allows, succeed, is_other, can_fail, failed_by, fail, closed_by, close, without_login, begin, changed, step}
+use Rattle.ely_domain.specs.Machine.{Given, Machine, Login, Pinned, Answered, login_of, with_login, when_in, when_pinned, when_carried, in_state, carried_in, roles, moved, loading, checking, named_unless, naming_fault, ident, ready_at, place_of, name1, name2, checked_first, is_carried, check1, verdict, check2, grants, authorize, allows, succeed, is_other, can_fail, failed_by, fail, closed_by, close, without_login, begin, changed, step}
 use Rattle.ely_domain.specs.Histories.{is_end, is_ready_since, is_established, accepted_word}
 use Rattle.ely_row.specs.Rows.{fault}
 use Rattle.ely_domain.proofs.WordLists.{next, IsAt, moved_on, ended}

@@ -1,5 +1,5 @@
 -- What the machine answers for a login in a state.
-use Rattle.std.proofs.Common.{◌≡◌, ℕ, Bool, true, false, eqb, List, Option, Some, None, refl}
+use Rattle.std.proofs.Common.{◌≡◌, ℕ, true, false, eqb, List, Some, None, refl}
 use Rattle.ely_script.specs.declared.word.StateWord.{StateWord}
 use Rattle.ely_script.specs.declared.word.StateWord.TheVariants.{Absent}
 use Rattle.ely_script.specs.declared.outcome.Outcome.TheVariants.{State, Gone}

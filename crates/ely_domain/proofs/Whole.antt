@@ -1,6 +1,6 @@
 -- The history of a replay is legal, whole and each line's in its turn.
-use Rattle.std.proofs.Common.{◌≡◌, ℕ, zero, suc, ◌+◌, ◌<◌, ◌≤◌, Bool, true, false, ◌&&◌, cond, eqb, ltb, List, [], ◌∷◌, ◌++◌, length, drop, map, Option, Some, None, Ok, Err, refl, sym, ap, ◌∙◌, append_assoc, append-nil, add-one, add-zero, arith, length-drop}
-use Rattle.std.specs.Prelude.{slice_get, filter, count_by}
+use Rattle.std.proofs.Common.{◌≡◌, ℕ, zero, suc, ◌+◌, Bool, true, false, ◌&&◌, cond, eqb, ltb, List, [], ◌∷◌, ◌++◌, length, drop, map, Option, Some, None, Ok, Err, refl, sym, ap, ◌∙◌, append_assoc, append-nil, add-one, add-zero, arith, length-drop}
+use Rattle.std.specs.Prelude.{slice_get, filter}
 use Rattle.std.proofs.lemmas.Bool.{eqb-true, eq-eqb}
 use Rattle.std.proofs.lemmas.Bool.Decides.{nat_tests}
 use Rattle.std.proofs.lemmas.List.Elements.{filter-append}
@@ -15,7 +15,7 @@ use Rattle.ely_domain.specs.Machine.{Given, Machine, first_machine, step}
 use Rattle.ely_script.specs.Reading.{Line}
 use Rattle.ely_domain.specs.Lines.{Taken, Ran, taken, after_first, actor_of, edit_word, verb_words, words_of, event_of, carried_after, run_words, ran}
 use Rattle.ely_domain.specs.Replays.{Made, made_by, lines_of, replayed_after, replayed}
-use Rattle.ely_domain.specs.Legal.{Cursor, Point, own_lines, IsNext, cursor_after, point_after, IsLegalFrom, AreOver, IsWhole}
+use Rattle.ely_domain.specs.Legal.{Cursor, Point, own_lines, IsNext, cursor_after, IsLegalFrom, AreOver, IsWhole}
 use Rattle.ely_domain.proofs.LegalSteps.{legal_append}
 
 -- the element after these

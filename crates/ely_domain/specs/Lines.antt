@@ -1,14 +1,12 @@
 -- The steps of a line, and what they make when nothing comes between them.
-use Rattle.std.specs.Prelude.{ℕ, Bool, true, false, if◌then◌else◌, List, [], ◌∷◌, map, Option, Some, None, Result, Ok, Err, unwrap_or}
+use Rattle.std.specs.Prelude.{ℕ, if◌then◌else◌, List, [], ◌∷◌, Option, None, Ok, Err, unwrap_or}
 use Rattle.std.specs.Option.{option_map, option_or}
 use Rattle.ely_base.specs.declared.ids.Serial.{Serial}
 use Rattle.ely_row.specs.declared.edit.Edit.{Edit}
 use Rattle.ely_row.specs.declared.edit.Edit.TheVariants as edits
 use Rattle.ely_domain.specs.declared.event.Event.{Event}
 use Rattle.ely_domain.specs.declared.event.Event.TheVariants as events
-use Rattle.ely_script.specs.declared.command.Command.{Command}
 use Rattle.ely_script.specs.declared.entry.Entry.{Entry}
-use Rattle.ely_script.specs.declared.command.LineError.{LineError}
 use Rattle.ely_script.specs.declared.command.LineError.TheVariants as errors
 use Rattle.ely_script.specs.declared.command.Verb.{Verb}
 use Rattle.ely_script.specs.declared.command.Verb.TheVariants as verbs

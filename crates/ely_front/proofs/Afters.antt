@@ -1,14 +1,14 @@
 -- One more line of a replay.
-use Rattle.std.proofs.Common.{◌≡◌, ℕ, ◌+◌, ◌*◌, ◌<◌, ◌≤◌, Bool, true, false, cond, eqb, List, [], ◌∷◌, ◌++◌, length, map, refl, sym, ap, ◌∙◌, append_assoc, append-nil, add-zero, arith, Option, Some, None, length-append}
+use Rattle.std.proofs.Common.{◌≡◌, ℕ, ◌+◌, ◌≤◌, Bool, true, false, cond, eqb, List, [], ◌∷◌, ◌++◌, length, map, refl, sym, ap, ◌∙◌, append_assoc, append-nil, add-zero, arith, Some, None, length-append}
 use Rattle.std.specs.Prelude.{unwrap_or}
 use Rattle.std.proofs.lemmas.List.{map-append, length-map}
 use Rattle.std.proofs.lemmas.Bool.{eqb-true, eq-eqb, false≢true}
 use Rattle.std.specs.Ordering.{nat_cmp}
-use Rattle.std.specs.BTreeMap.{get, BTreeMap}
+use Rattle.std.specs.BTreeMap.{get}
 use Rattle.ely_script.specs.declared.entry.Entry.{Entry}
 use Rattle.ely_script.specs.Reading.{Line}
-use Rattle.ely_script.specs.Text.{line_text, text, text_from, numbered}
-use Rattle.ely_domain.specs.Machine.{Machine, Given}
+use Rattle.ely_script.specs.Text.{line_text, text_from, numbered}
+use Rattle.ely_domain.specs.Machine.{Machine}
 use Rattle.ely_domain.specs.Lines.{Taken, actor_of, words_of, ran, entry_at}
 use Rattle.ely_domain.specs.Replays.{made_by, entry_of, lines_of, replayed_after}
 use Rattle.ely_domain.proofs.Whole.{lines_push}

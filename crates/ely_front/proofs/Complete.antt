@@ -1,6 +1,6 @@
 -- Where nothing failed and no limit was met, all was written, or memory ran out.
-use Rattle.std.proofs.Common.{◌≡◌, ℕ, ◌+◌, ◌<◌, ◌≤◌, Bool, true, false, List, [], ◌∷◌, ◌++◌, length, Option, Some, None, refl, sym, ap, subst, ◌∙◌, ◌⊎◌, inl, inr, ⊎_elim, true≢false, arith, append_assoc, append-nil, length-append, codes}
-use Rattle.std.specs.Io.KnownBytes.{Consumes, IsAtEnd, Appends}
+use Rattle.std.proofs.Common.{◌≡◌, ℕ, ◌<◌, false, List, [], ◌∷◌, ◌++◌, length, Option, Some, None, refl, sym, ap, subst, ◌∙◌, ◌⊎◌, inl, inr, ⊎_elim, true≢false, arith, append_assoc, append-nil, length-append, codes}
+use Rattle.std.specs.Io.KnownBytes.{Consumes, IsAtEnd}
 use Rattle.ely_io.specs.Causes.{Rose}
 use Rattle.ely_io.specs.Lines.{HasNoLf, lines_of}
 use Rattle.ely_io.specs.Reading.{most}
@@ -9,7 +9,7 @@ use Rattle.ely_front.specs.declared.ending.Ending.{Ending}
 use Rattle.ely_front.specs.declared.ending.Ending.TheVariants as ending
 use Rattle.ely_front.specs.Scripts.{is_config}
 use Rattle.ely_front.specs.Endings.{Ends, IsDone, IsFirstLine, config_most, status_of}
-use Rattle.ely_front.specs.Runs.{IsWithinLimits, IsComplete}
+use Rattle.ely_front.specs.Runs.{IsComplete}
 
 same_head : (x y : List ℕ) (xs ys : List (List ℕ)) → x ∷ xs ≡ y ∷ ys → x ≡ y
 same_head x y xs ys h = cc

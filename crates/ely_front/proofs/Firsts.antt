@@ -1,8 +1,7 @@
 -- The first line of a script, and what is behind it.
-use Rattle.std.proofs.Common.{◌≡◌, ◌≢◌, ℕ, ◌+◌, ◌<◌, ◌≤◌, Bool, true, false, List, [], ◌∷◌, ◌++◌, length, map, Option, Some, None, Result, Ok, Err, refl, sym, ap, subst, ◌∙◌, ◌⊎◌, inl, inr, ⊎_elim, true≢false, arith, append_assoc, length-append, cond}
-use Rattle.std.proofs.lemmas.List.{append-nil}
+use Rattle.std.proofs.Common.{◌≡◌, ℕ, ◌+◌, Bool, true, false, List, [], ◌∷◌, ◌++◌, length, Option, None, Ok, Err, refl, sym, ap, subst, ◌∙◌, ◌⊎◌, inl, inr, ⊎_elim, true≢false, arith, append_assoc, length-append, cond}
 use Rattle.std.proofs.KnownBytes.{Consumes-trans, Appends-nil}
-use Rattle.std.specs.Io.KnownBytes.{Consumes, IsAtEnd, Appends}
+use Rattle.std.specs.Io.KnownBytes.{Consumes, Appends}
 use Rattle.ely_base.specs.declared.refused.Refused.{Refused}
 use Rattle.ely_base.specs.declared.refused.Refused.TheVariants.{Fault, NoMemory as OutOfMemory}
 use Rattle.ely_io.specs.declared.line.Line.{Line as Given}
@@ -11,15 +10,15 @@ use Rattle.ely_io.specs.declared.line.LineFault.{LineFault}
 use Rattle.ely_io.specs.declared.line.LineFault.TheVariants.{Read as ReadFault, Spent as SpentFault}
 use Rattle.ely_io.specs.Causes.{AppendsFront}
 use Rattle.ely_io.specs.Lines.{HasNoLf, lines_of, whole_lines}
-use Rattle.ely_io.specs.Reading.{Reader, most, IsGiven, IsGivenAt, GivesLine, Next}
+use Rattle.ely_io.specs.Reading.{Reader, most, IsGivenAt, GivesLine, Next}
 use Rattle.ely_io.proofs.LineLaws.{lines_of-line, lines_of-last, whole_lines-line, whole_lines-none}
 use Rattle.ely_domain.proofs.FileOrder.{replayed_is_history}
 use Rattle.ely_front.specs.declared.ending.Ending.{Ending}
 use Rattle.ely_front.specs.declared.ending.Ending.TheVariants as ending
 use Rattle.ely_front.specs.declared.script.First.{First}
 use Rattle.ely_front.specs.declared.script.First.TheVariants.{Config, Other, Long}
-use Rattle.ely_front.specs.Scripts.{shipped, text_of, script_of, history_of, is_config}
-use Rattle.ely_front.specs.Endings.{Lasts, IsCut, Stops, Ends, Says, IsSaid, IsCutShort, IsDone, IsFirstLine, IsConfigured, said_of, spent_text, bytes_limit_text, config_text, config_limit_text, config_most}
+use Rattle.ely_front.specs.Scripts.{shipped, script_of, history_of, is_config}
+use Rattle.ely_front.specs.Endings.{Lasts, IsCut, Stops, Ends, Says, IsSaid, IsCutShort, IsFirstLine, IsConfigured, said_of, bytes_limit_text, config_text, config_limit_text, config_most}
 use Rattle.ely_front.specs.FirstLines.{judged, Refuses}
 
 -- a reader that has taken nothing

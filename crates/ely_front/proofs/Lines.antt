@@ -1,5 +1,5 @@
 -- A line that is run word by word.
-use Rattle.std.proofs.Common.{◌≡◌, ℕ, suc, lit≤, leb, ◌+◌, ◌-◌, ◌^◌, ◌<◌, ◌≤◌, Bool, true, false, not, cond, List, [], ◌∷◌, ◌++◌, length, drop, map, get_or, Option, Some, None, Ok, Err, Result, OnErr, refl, sym, ap, ◌∙◌, inl, inr, ⊎_elim, ◌⊎◌, arith, append_assoc, append-nil, add-one, length-drop}
+use Rattle.std.proofs.Common.{◌≡◌, ℕ, suc, lit≤, leb, ◌+◌, ◌-◌, ◌^◌, ◌<◌, ◌≤◌, Bool, true, false, not, cond, List, [], ◌∷◌, ◌++◌, length, drop, map, get_or, Option, Some, None, Ok, Err, Result, OnErr, refl, sym, ap, ◌∙◌, ⊎_elim, ◌⊎◌, arith, append_assoc, append-nil, add-one, length-drop}
 use Rattle.std.proofs.lemmas.List.{drop_all}
 use Rattle.std.proofs.Math.Seq.{drop-cons}
 use Rattle.ely_base.specs.declared.ids.CtxId.{CtxId}
@@ -10,10 +10,8 @@ use Rattle.ely_script.specs.declared.word.StepWord.TheVariants as words
 use Rattle.ely_script.specs.declared.entry.Entry.{Entry}
 use Rattle.ely_script.specs.declared.word.StepWord.{StepWord}
 use Rattle.ely_script.specs.declared.outcome.Outcome.{Outcome}
-use Rattle.ely_script.specs.declared.word.CacheWord.{CacheWord}
 use Rattle.ely_domain.specs.declared.event.Event.{Event}
 use Rattle.ely_script.specs.Words.{is_accepted}
-use Rattle.ely_domain.specs.Domains.{carrier, serial_given}
 use Rattle.std.specs.Prelude.{is_some}
 use Rattle.ely_row.specs.declared.edit.EditFault.{EditFault}
 use Rattle.ely_domain.specs.declared.event.Event.TheVariants as events

@@ -1,6 +1,6 @@
 -- What the loop over the lines of a script keeps.
 use Rattle.std.proofs.Common.{◌≡◌, ◌≢◌, ℕ, ◌+◌, ◌*◌, ◌^◌, ◌<◌, ◌≤◌, Bool, true, false, List, [], ◌∷◌, ◌++◌, length, take, map, Option, Some, None, Result, Ok, Err, refl, sym, ap, subst, ◌∙◌, ◌⊎◌, inl, inr, ⊎_elim, true≢false, arith, append_assoc, length-append, cond, ltb}
-use Rattle.std.proofs.lemmas.List.{append-nil, map-append, length-map}
+use Rattle.std.proofs.lemmas.List.{append-nil, map-append}
 use Rattle.std.proofs.lemmas.List.Sums.{count_by-le-length}
 use Rattle.std.proofs.lemmas.Bool.{cond-true}
 use Rattle.std.proofs.lemmas.Bool.Decides.{nat_tests}
@@ -14,7 +14,7 @@ use Rattle.ely_io.specs.declared.line.LineFault.{LineFault}
 use Rattle.ely_io.specs.declared.line.LineFault.TheVariants.{Read as ReadFault, Spent as SpentFault}
 use Rattle.ely_io.specs.Causes.{Rose, AppendsFront}
 use Rattle.ely_io.specs.Lines.{HasNoLf, lines_of, whole_lines}
-use Rattle.ely_io.specs.Reading.{Reader, most, IsGiven, IsGivenAt, GivesLine, Next, Counts}
+use Rattle.ely_io.specs.Reading.{Reader, IsGiven, IsGivenAt, GivesLine, Next, Counts}
 use Rattle.ely_io.proofs.LineLaws.{lines_of-line, lines_of-last, whole_lines-line, whole_lines-none}
 use Rattle.ely_io.proofs.Fronts.{front_after, front_of_more, front_whole}
 use Rattle.ely_script.specs.declared.command.LineError.TheVariants.{Bad}
@@ -22,14 +22,13 @@ use Rattle.ely_script.specs.declared.outcome.BadLine.TheVariants.{Long}
 use Rattle.ely_script.specs.Reading.{Line, read_of, of_words, most_bytes}
 use Rattle.ely_base.specs.Parts.{parts_at}
 use Rattle.ely_domain.specs.Lines.{actor_of}
-use Rattle.ely_domain.specs.Replays.{lines_of as own_count}
 use Rattle.ely_front.specs.declared.replay.Replay.{Replay}
 use Rattle.ely_front.specs.declared.ending.Ending.{Ending}
 use Rattle.ely_front.specs.declared.ending.Ending.TheVariants as ending
 use Rattle.ely_front.specs.Scripts.{text_of, script_of}
-use Rattle.ely_front.specs.After.{IsAfter, HasRoom, count_of}
+use Rattle.ely_front.specs.After.{IsAfter, HasRoom}
 use Rattle.ely_front.specs.Heard.{heard}
-use Rattle.ely_front.specs.Endings.{Lasts, IsCut, Stops, spent_text, bytes_limit_text}
+use Rattle.ely_front.specs.Endings.{Lasts, Stops, bytes_limit_text}
 
 -- These lines were answered, and the bytes so far are they and what is held.
 pub record Said (start : List ℕ) (base : ℕ) (left_old left held_old held : Option (List ℕ)) (reader : Reader) (replay : Replay) : Type 0 where

@@ -1,5 +1,5 @@
 -- The whole program: its words, and what it reads, writes and answers.
-use Rattle.std.specs.Prelude.{ℕ, ◌≡◌, ◌⊎◌, ◌<◌, ◌==◌, ◌&&◌, Bool, true, false, List, ◌∷◌, length, slice_get, codes, Option, Some, None}
+use Rattle.std.specs.Prelude.{ℕ, ◌≡◌, ◌⊎◌, ◌<◌, ◌==◌, ◌&&◌, Bool, false, List, ◌∷◌, length, slice_get, codes, Option, Some, None}
 use Rattle.std.specs.Str.{bytes_eq}
 use Rattle.std.specs.Io.KnownBytes.{Consumes, Appends}
 use Rattle.ely_io.specs.Causes.{Rose, AppendsFront}

@@ -1,5 +1,5 @@
 -- The lines of a script, and the text of its history in file order.
-use Rattle.std.specs.Prelude.{ℕ, ◌≡◌, Bool, List, [], ◌∷◌, map, codes}
+use Rattle.std.specs.Prelude.{ℕ, Bool, List, map, codes}
 use Rattle.std.specs.Str.{bytes_eq}
 use Rattle.ely_script.specs.Reading.{Line, read_of}
 use Rattle.ely_script.specs.Text.{text}

@@ -94,6 +94,36 @@ fn a_password_establishes_an_identity(rt: HostRuntime) -> Result<(), Fail> {
     Ok(())
 }
 
+const REFUSED: &[u8] = b"{}
+0 add main user
+0 set-cred main user 1 clear pencil
+0 open 1 PLAIN
+0 plain 1 AGJvYgB4
+0 plain 1 AHVzZXIAcGVuY2l4
+0 authorize 1
+0 zap";
+
+const REFUSALS: &[u8] = b"1 0 1 add ok 1
+2 0 2 set-cred ok 2
+3 0 3 open ok 1
+4 0 4 name1 unknown
+5 0 5 name1 pinned 2 -
+6 0 5 name2 named -
+7 0 5 check1 ok
+8 0 5 check2 password
+9 0 6 authorize state failed
+10 0 7 bad-line verb
+";
+
+#[test]
+fn an_unknown_name_and_a_wrong_password_are_refused(rt: HostRuntime) -> Result<(), Fail> {
+    let shown = ran(&rt, &REPLAY, REFUSED)?;
+    assert_eq!(rt; shown.len(), REFUSALS.len() + 1);
+    assert_eq!(rt; &shown[..REFUSALS.len()], REFUSALS);
+    assert_eq!(rt; shown[REFUSALS.len()], b'0');
+    Ok(())
+}
+
 /// Gives the first 19 bytes of the login's input and fails from then on.
 #[derive(Drop)]
 struct Broken {

@@ -20,7 +20,7 @@ insert_last order [] k v rest sorted = refl
 insert_last {cmp = cmp} order (e ∷ es) k v rest sorted =
     let less = all_in_middle (λ y. cmp e.0 y ≡ Less) es k v rest (sorted_head cmp e.0 _ sorted) in
     ap (λ o. match_ordering o ((k, v) ∷ e ∷ es) ((e.0, v) ∷ es) (e ∷ insert_entry cmp es k v)) (order.antisymm k e.0 ∙ ap ordering_reverse less)
-        ∙ ap (λ fs. e ∷ fs) (insert_last order es k v rest (sorted_tail cmp e.0 _ sorted))
+    ∙ ap (λ fs. e ∷ fs) (insert_last order es k v rest (sorted_tail cmp e.0 _ sorted))
 
 -- one more entry is copied from what is left
 pub copied_more : {K X : Type 0} {cmp : K → K → Ordering} → IsTotalOrder cmp → (copy more all rest tail : List (K × X)) (k l : K) (v w : X)

@@ -60,7 +60,5 @@ impl Deps {
 pub fn touches(edit: &Edit, deps: &Deps) -> bool
     ensures { result ≡ touches edit.now deps.now }
 {
-    deps.all()
-        .iter()
-        .any(|place| edit.realm().is(&place.0) && edit.name().is(&place.1))
+    deps.all().iter().any(|place| edit.realm().is(&place.0) && edit.name().is(&place.1))
 }

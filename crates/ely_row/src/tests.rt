@@ -107,7 +107,10 @@ fn the_lowest_slot_is_ready_also_in_a_copy(rt: HostRuntime) -> Result<(), Fail> 
     }
     let copy = row.copy(rt.alloc())?;
     assert!(rt; copy.cred_count() == 2 && copy.attr_count() == 1);
-    assert_eq!(rt; copy.attr(&groups).map_or(0, |values| values.all().len()), 3);
+    assert_eq!(rt;
+        copy.attr(&groups).map_or(0, |values| values.all().len()),
+        3
+    );
     match copy.ready() {
         Some(StoredCred::Clear(password)) => assert_eq!(rt; password.bytes(), b"low!".as_slice()),
         None => assert!(rt; false),

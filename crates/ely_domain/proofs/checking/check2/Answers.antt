@@ -1,7 +1,4 @@
-use Rattle.std.proofs.Common.{◌≡◌, cond, sym, ap, ◌∙◌, refl, None, true, false}
-use Rattle.ely_domain.specs.Machine.{verdict, moved, with_login, Answered}
-use Rattle.ely_domain.specs.Contexts.{logins, login}
-use Rattle.ely_script.specs.declared.word.StateWord.TheVariants.{Proved, Failed}
+use Rattle.std.proofs.Common.{sym, ap, ◌∙◌, refl, None}
 use Rattle.ely_script.specs.declared.outcome.Outcome.TheVariants as outcomes
 use Rattle.ely_domain.proofs.checking.check2.Goals as goal
 

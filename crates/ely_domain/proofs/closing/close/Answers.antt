@@ -1,6 +1,5 @@
-use Rattle.std.proofs.Common.{◌≡◌, sym, ap, ◌∙◌, List}
-use Rattle.ely_domain.specs.declared.context.Context.{Context}
-use Rattle.ely_domain.specs.Contexts.{logins, AreSound}
+use Rattle.std.proofs.Common.{ap, ◌∙◌}
+use Rattle.ely_domain.specs.Contexts.{logins}
 use Rattle.ely_domain.proofs.Removals.{closed_is, logins_kept, sound_kept}
 use Rattle.ely_domain.proofs.closing.close.Goals as goal
 

@@ -1,6 +1,6 @@
-use Rattle.std.proofs.Common.{◌≡◌, Some, sym, ap, ◌∙◌, refl}
+use Rattle.std.proofs.Common.{Some, sym, ap, ◌∙◌}
 use Rattle.std.specs.Option.{option_map}
-use Rattle.ely_domain.specs.Contexts.{pinned, prepared_for}
+use Rattle.ely_domain.specs.Contexts.{pinned}
 use Rattle.ely_script.specs.declared.outcome.Outcome.TheVariants as outcomes
 use Rattle.ely_domain.proofs.Pins.{past_of, authorized}
 use Rattle.std.proofs.lemmas.Option.{same_Some}

@@ -1,6 +1,5 @@
-use Rattle.std.proofs.Common.{◌≡◌, Some, None, sym, ap, ◌∙◌, refl}
-use Rattle.std.specs.Option.{option_map}
-use Rattle.ely_domain.specs.Contexts.{logins, prepared_for}
+use Rattle.std.proofs.Common.{sym, ap, ◌∙◌, refl}
+use Rattle.ely_domain.specs.Contexts.{logins}
 use Rattle.ely_script.specs.declared.outcome.Outcome.TheVariants as outcomes
 use Rattle.ely_domain.proofs.Pins.{handed_out, none_handed_out}
 use Rattle.ely_domain.proofs.granting.succeed.Goals as goal

@@ -1,4 +1,4 @@
-use Rattle.std.proofs.Common.{◌≡◌, false, length, Some, None, sym, ap, ◌∙◌}
+use Rattle.std.proofs.Common.{◌≡◌, false, length, None, sym, ap, ◌∙◌}
 use Rattle.ely_domain.specs.Machine.{is_other, place_of, naming_fault, named_unless}
 use Rattle.ely_domain.specs.Contexts.{logins, login}
 use Rattle.ely_script.specs.declared.outcome.Outcome.TheVariants as outcomes

@@ -1,4 +1,4 @@
-use Rattle.std.proofs.Common.{◌≡◌, sym, ◌∙◌, arith}
+use Rattle.std.proofs.Common.{◌∙◌}
 use Rattle.ely_script.specs.declared.word.StepWord.TheVariants.{BadLine}
 use Rattle.ely_domain.specs.Lines.{actor_of, ran, number_of}
 use Rattle.ely_front.proofs.Lines.{at_any_rate, broke, go_on, stops, room_on, ends, next_word}

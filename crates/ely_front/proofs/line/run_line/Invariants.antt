@@ -1,5 +1,4 @@
-use Rattle.std.proofs.Common.{◌≡◌, ◌<◌, ◌-◌, ◌^◌, ◌∷◌, List, drop}
-use Rattle.ely_script.specs.declared.word.StepWord.{StepWord}
+use Rattle.std.proofs.Common.{◌≡◌, drop}
 use Rattle.ely_domain.specs.Lines.{ran, actor_of, words_of, number_of}
 use Rattle.ely_front.proofs.Lines.{IsSoFar, HasRoom}
 use Rattle.ely_front.proofs.line.run_line.Given as goal

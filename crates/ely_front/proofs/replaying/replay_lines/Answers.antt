@@ -1,7 +1,7 @@
 use Rattle.std.proofs.Common.{◌≡◌, true, false, arith, Ok}
 use Rattle.ely_script.specs.Reading.{most_bytes}
 use Rattle.ely_front.specs.Scripts.{script_of}
-use Rattle.ely_front.proofs.Said.{Answered, begun, goes_on, is_done, broke, out_of_memory, stopped, read_rose, given_rises, unmarked}
+use Rattle.ely_front.proofs.Said.{Answered, begun, goes_on, is_done, broke, out_of_memory, stopped, given_rises, unmarked}
 use Rattle.ely_front.proofs.replaying.replay_lines.Goals as goal
 
 pub loop-line-init : goal.loop-line-init

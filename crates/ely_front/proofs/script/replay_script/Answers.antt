@@ -1,4 +1,4 @@
-use Rattle.std.proofs.Common.{◌≡◌, true, false, None, Option, sym, ap}
+use Rattle.std.proofs.Common.{◌≡◌, true, false, None, ap}
 use Rattle.ely_io.specs.Reading.{Reader}
 use Rattle.ely_front.proofs.Firsts.{stopped_first, refused_other, refused_long, nothing_behind, went_on}
 use Rattle.ely_front.proofs.script.replay_script.Goals as goal

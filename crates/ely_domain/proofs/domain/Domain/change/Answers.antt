@@ -1,4 +1,4 @@
-use Rattle.std.proofs.Common.{◌≡◌, ◌<◌, length, None, sym, ap, ◌∙◌, arith, List, ◌++◌, ◌∷◌, []}
+use Rattle.std.proofs.Common.{◌≡◌, None, sym, ap, ◌∙◌, arith, List, ◌∷◌, []}
 use Rattle.std.proofs.lemmas.List.{length-append}
 use Rattle.ely_row.specs.Rows.{fault}
 use Rattle.ely_row.specs.declared.edit.Edit.{Edit}

@@ -1,4 +1,3 @@
-use Rattle.std.proofs.Common.{sym}
 use Rattle.ely_front.specs.declared.replay.Replay.{Replay}
 use Rattle.ely_front.proofs.Afters.{IsAnswered, said_so, after_so}
 use Rattle.ely_front.proofs.replay.Replay.answer.Goals as goal
