@@ -53,6 +53,7 @@ impl Model for Domain {
 impl Domain {
     ghost use Rattle.ely_domain.specs.Machine.{first_machine};
 
+    /// A domain without edits and logins, whose journal takes `journal_limit` edits, at most 131,072.
     pub fn new(alloc: Global, journal_limit: u32) -> Domain
         requires { journal_limit ≤ 131072 }
         ensures { result ≡ record { given = record { limit = journal_limit }; machine = first_machine } }
@@ -65,6 +66,7 @@ impl Domain {
         }
     }
 
+    /// How many opens were accepted, which is the serial number of the last of them.
     pub fn opened(&self) -> u64
         ensures { result ≡ self.now.machine.opened }
     {

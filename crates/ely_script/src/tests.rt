@@ -1,5 +1,6 @@
 use crate::{
-    BadLine, CacheWord, Entry, LineError, Outcome, StateWord, StepWord, Verb, print_step, read_line,
+    BadLine, CacheWord, Command, Entry, LineError, Outcome, StateWord, StepWord, Verb, print_step,
+    read_line,
 };
 use ely_base::{Bytes, Items, Name, NameFault, NoMemory, Refused, Serial, Version};
 use ely_plain::PlainFault;
@@ -38,8 +39,14 @@ fn word(verb: &Verb) -> &'static [u8] {
     }
 }
 
+/// A copy of the command that the line is.
+fn copied(alloc: Global, line: &[u8]) -> Option<Command> {
+    let command = read_line(alloc, line).ok()?;
+    command.copy(alloc).ok()
+}
+
 #[test]
-fn each_verb_is_read_and_copied(rt: HostRuntime) -> Result<(), Fail> {
+fn each_verb_is_read_and_copied(rt: HostRuntime) {
     let lines: [(&[u8], &[u8]); 14] = [
         (b"7 add main u", b"add"),
         (b"7 remove %6dain a%20b", b"remove"),
@@ -57,15 +64,11 @@ fn each_verb_is_read_and_copied(rt: HostRuntime) -> Result<(), Fail> {
         (b"7 allows 1 read:%2A", b"allows"),
     ];
     for (line, verb) in lines {
-        let command = read_line(rt.alloc(), line)?;
-        let copy = command.copy(rt.alloc())?;
-        assert!(rt; copy.actor == 7 && word(&copy.verb) == verb);
-        assert_eq!(rt;
-            format!(in rt.alloc(); "{copy:?}")?.as_str(),
-            format!(in rt.alloc(); "{command:?}")?.as_str()
-        );
+        match copied(rt.alloc(), line) {
+            Some(copy) => assert!(rt; copy.actor == 7 && word(&copy.verb) == verb),
+            None => assert!(rt; false),
+        }
     }
-    Ok(())
 }
 
 #[test]
