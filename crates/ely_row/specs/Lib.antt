@@ -1,5 +1,6 @@
+pub mod Cuts
+pub mod Salts
 pub mod Creds
 pub mod Attributes
 pub mod Rows
 pub mod Dependence
-pub mod Accepted

@@ -1,5 +1,5 @@
 -- What a list of edits makes of an identity, and which edits are refused.
-use Rattle.std.specs.Prelude.{ℕ, ◌≤◌, ◌+◌, ◌-◌, ◌&&◌, ◌||◌, Bool, if◌then◌else◌, nat_le, nat_lt, List, [], ◌∷◌, ◌++◌, length, fold, codes, slice_get, Option, Some, None, is_some}
+use Rattle.std.specs.Prelude.{ℕ, ◌≤◌, ◌+◌, ◌-◌, ◌&&◌, ◌||◌, Bool, if◌then◌else◌, nat_le, nat_lt, List, [], ◌∷◌, ◌++◌, length, fold, Option, Some, None, is_some}
 use Rattle.std.specs.Option.{option_map}
 use Rattle.std.specs.Ordering.{nat_cmp}
 use Rattle.std.specs.declared.cmp.Ordering.{Ordering}
@@ -12,7 +12,7 @@ use Rattle.ely_row.specs.declared.cred.StoredCred.{StoredCred}
 use Rattle.ely_row.specs.declared.edit.Edit.{Edit}
 use Rattle.ely_row.specs.declared.edit.Edit.TheVariants.{Add, Remove, SetCred, DropCred, SetAttr, DropAttr}
 use Rattle.ely_row.specs.declared.edit.EditFault.{EditFault}
-use Rattle.ely_row.specs.declared.edit.EditFault.TheVariants.{JournalFull, NoRealm, Exists, Absent, NoCred, NoAttr, CredsFull, AttrsFull, RowsFull}
+use Rattle.ely_row.specs.declared.edit.EditFault.TheVariants.{Exists, Absent, NoCred, NoAttr, CredsFull, AttrsFull, RowsFull}
 
 -- an identity: its credentials, each with its slot, the slots rising, and its attributes, each with its name, the names rising
 pub record Identity : Type 0 where
@@ -27,13 +27,13 @@ name_cmp = slice_cmp nat_cmp
 abbrev pub no_row : Identity
 no_row = record { creds = []; attrs = [] }
 
--- the credential of the lowest slot
-abbrev pub ready : Identity → Option StoredCred
-ready row = option_map (λ p. p.1) (slice_get row.creds 0)
+-- the credential of the slot
+abbrev pub cred_of : ℕ → Identity → Option StoredCred
+cred_of slot row = lookup (is_at (nat_cmp slot)) row.creds
 
 -- the slot holds a credential
 abbrev pub has_cred : ℕ → Identity → Bool
-has_cred slot row = is_some (lookup (is_at (nat_cmp slot)) row.creds)
+has_cred slot row = is_some (cred_of slot row)
 
 -- the values of the attribute
 abbrev pub attr_of : List ℕ → Identity → Option (List (List ℕ))
@@ -57,10 +57,6 @@ pub record IsRow (row : Identity) : Type 0 where
   pub creds_rise : IsStrictlySortedBy nat_cmp (keys_of row.creds)
   pub attrs_few : length row.attrs ≤ 32
   pub attrs_rise : IsStrictlySortedBy name_cmp (keys_of row.attrs)
-
--- the one realm that there is
-unfoldable pub main_realm : List ℕ
-main_realm = codes "main"
 
 -- a realm and a name are these
 abbrev pub is_place : List ℕ → List ℕ → List ℕ → List ℕ → Bool
@@ -145,13 +141,3 @@ fault_absent count _ = Some Absent
 abbrev pub row_fault : ℕ → Option Identity → Edit → Option EditFault
 row_fault count None edit = fault_absent count edit
 row_fault count (Some row) edit = fault_there row edit
-
--- why an edit of a realm that is there is refused after these edits, the first cause first
-abbrev pub own_fault : List Edit → Edit → Option EditFault
-own_fault edits edit = row_fault (row_count edits (realm_of edit)) (row edits (realm_of edit) (name_of edit)) edit
-
--- the first refusal of an edit after these, where the journal has a limit
-abbrev pub fault : ℕ → List Edit → Edit → Option EditFault
-fault limit edits edit =
-    if nat_le limit (length edits) then Some (JournalFull limit)
-    else (if bytes_eq (realm_of edit) main_realm then own_fault edits edit else Some NoRealm)

@@ -1,37 +1,36 @@
 //! What an edit makes of an identity, and why one is refused.
 
-ghost use Rattle.std.specs.Prelude.{◌≡◌, Some, None, IfOk, if◌then◌else◌};
-ghost use Rattle.std.specs.Option.{option_map};
-ghost use Rattle.ely_row.specs.Rows.{is_place, realm_of, name_of, changed, row_after, fault_there, fault_absent, row_fault};
-ghost use Rattle.ely_row.specs.Accepted.{Suits};
+ghost use Rattle.std.specs.Prelude.{◌≡◌, Some, None, IfOk, IfSome, if◌then◌else◌};
+ghost use Rattle.std.specs.Option.{option_copied};
+ghost use Rattle.ely_row.specs.Rows.{changed, fault_there, fault_absent, row_fault};
 
 use crate::edit::{Edit, EditFault};
 use crate::row::Row;
-use ely_base::{Name, NoMemory};
+use ely_base::NoMemory;
 use std::alloc::Global;
 
 /// The most identities of a realm.
 const MOST_ROWS: usize = 65536;
 
 /// What an edit that may be made makes of the identity.
-fn changed_row(alloc: Global, row: Row, edit: &Edit) -> Result<Option<Row>, NoMemory>
-    requires { fault_there row edit.now ≡ None }
-    ensures { IfOk result (λ after. after ≡ changed edit.now (Some row)) }
+fn changed_row(alloc: Global, row: &Row, edit: &Edit) -> Result<Option<Row>, NoMemory>
+    requires { fault_there row.now edit.now ≡ None }
+    ensures { IfOk result (λ after. after ≡ changed edit.now (Some row.now)) }
 {
     match edit {
         Edit::Add { .. } => Ok(Some(Row::new(alloc))),
         Edit::Remove { .. } => Ok(None),
         Edit::SetCred { slot, cred, .. } => {
             let cred = cred.copy(alloc)?;
-            Ok(Some(row.with(*slot, cred)?))
+            Ok(Some(row.copy(alloc)?.with(*slot, cred)?))
         }
-        Edit::DropCred { slot, .. } => Ok(Some(row.without(*slot))),
+        Edit::DropCred { slot, .. } => Ok(Some(row.copy(alloc)?.without(*slot))),
         Edit::SetAttr { attr, values, .. } => {
             let attr = attr.copy(alloc)?;
             let values = values.copy(alloc)?;
-            Ok(Some(row.with_attr(attr, values)?))
+            Ok(Some(row.copy(alloc)?.with_attr(attr, values)?))
         }
-        Edit::DropAttr { attr, .. } => Ok(Some(row.without_attr(attr))),
+        Edit::DropAttr { attr, .. } => Ok(Some(row.copy(alloc)?.without_attr(attr))),
     }
 }
 
@@ -45,21 +44,12 @@ fn made(alloc: Global, edit: &Edit) -> Option<Row>
     }
 }
 
-/// What an edit makes of the identity of the name in the realm, where there is one. Edits of other places leave it.
-pub fn row_after(
-    alloc: Global,
-    realm: &Name,
-    name: &Name,
-    before: Option<Row>,
-    edit: &Edit,
-) -> Result<Option<Row>, NoMemory>
-    requires { Suits realm.now name.now before edit.now }
-    ensures { IfOk result (λ after. after ≡ row_after realm.now name.now before edit.now) }
+/// What an edit that may be made makes of the identity that it names, or of a name that has none. What it made is new.
+pub fn changed(alloc: Global, row: Option<&Row>, edit: &Edit) -> Result<Option<Row>, NoMemory>
+    requires { IfSome (option_copied row) (λ r. fault_there r edit.now ≡ None) }
+    ensures { IfOk result (λ after. after ≡ changed edit.now (option_copied row.entry)) }
 {
-    if !(edit.realm().is(realm) && edit.name().is(name)) {
-        return Ok(before);
-    }
-    match before {
+    match row {
         None => Ok(made(alloc, edit)),
         Some(row) => changed_row(alloc, row, edit),
     }
@@ -98,7 +88,7 @@ fn fault_absent(count: usize, edit: &Edit) -> Option<EditFault>
 
 /// Why the edit of this identity, or of a name that has none, is refused, where its realm has so many identities.
 pub fn row_fault(count: usize, row: Option<&Row>, edit: &Edit) -> Option<EditFault>
-    ensures { result ≡ row_fault count (option_map (λ r. r.now) row.entry) edit.now }
+    ensures { result ≡ row_fault count (option_copied row.entry) edit.now }
 {
     match row {
         None => fault_absent(count, edit),

@@ -1,19 +1,50 @@
-//! What an identity proves itself with.
+//! What an identity proves itself with, in the five kinds in which it is stored.
 
-ghost use Rattle.std.specs.Prelude.{◌≡◌, IfOk};
+ghost use Rattle.std.specs.Prelude.{◌≡◌, IsTrue, IfOk};
 ghost use Rattle.std.specs.List.{list_any};
 ghost use Rattle.ely_base.specs.Names.{is_barred};
 ghost use Rattle.ely_base.specs.Refused.{Gives};
-ghost use Rattle.ely_row.specs.Creds.{is_kind, is_password, clear_of, cred_of};
+ghost use Rattle.ely_row.specs.Creds.{is_kind, is_password, is_clear, clear_of, cred_of, is_stored, mapped};
 
+use crate::fault::CredFault;
+use crate::ha1::{Ha1, read_hashed};
+use crate::salted::{Salted, read_salted};
 use ely_base::{Bytes, NoMemory, Refused, text_len};
 use std::alloc::Global;
+use std::marker::Model;
 
-/// A stored credential.
+/// A credential of one of the five kinds.
 #[derive(Debug, Drop)]
-pub enum StoredCred {
-    /// A password as it is.
+pub enum Credential {
+    /// A password as it is: 1 to 1,024 bytes of UTF-8 without NUL and LF.
     Clear(Bytes),
+    /// A password salted with SHA-1, of 20 bytes (RFC 5802).
+    Scram1(Salted),
+    /// A password salted with SHA-256, of 32 bytes (RFC 7677).
+    Scram256(Salted),
+    /// A hash of MD5, of 16 bytes (RFC 7616).
+    DigestMd5(Ha1),
+    /// A hash of SHA-256, of 32 bytes (RFC 7616).
+    DigestSha256(Ha1),
+}
+
+/// A stored credential, seen as what it is. It is within the bounds of its kind.
+#[derive(Debug, Drop)]
+pub struct StoredCred {
+    credential: Credential,
+}
+
+impl Model for StoredCred {
+    ghost use Rattle.ely_row.specs.declared.cred.Credential.{Credential};
+
+    ghost Value = { Credential };
+
+    ghost use Rattle.std.specs.Prelude.{IsTrue};
+    ghost use Rattle.ely_row.specs.Creds.{is_stored};
+
+    ghost view = { λ c. c.credential };
+
+    ghost invariant = { λ c. IsTrue (is_stored c.credential) };
 }
 
 /// Whether a credential may have this kind.
@@ -21,6 +52,10 @@ pub fn is_kind(kind: &[u8]) -> bool
     ensures { result ≡ is_kind kind.now }
 {
     kind == b"clear".as_slice()
+        || kind == b"scram-sha-1".as_slice()
+        || kind == b"scram-sha-256".as_slice()
+        || kind == b"digest-md5".as_slice()
+        || kind == b"digest-sha-256".as_slice()
 }
 
 /// Whether a NUL or LF stands in the text.
@@ -37,8 +72,9 @@ fn is_password(text: &[u8]) -> bool
     text_len(text) >= text.len() && !has_barred(text)
 }
 
-fn read_clear(alloc: Global, text: &[u8]) -> Result<StoredCred, Refused<CredFault>>
-    ensures { Gives result (clear_of text.now) }
+fn read_clear(alloc: Global, text: &[u8]) -> Result<Credential, Refused<CredFault>>
+    ensures value { Gives result (clear_of text.now) }
+    ensures bounds { IfOk result (λ c. IsTrue (is_stored c)) }
 {
     if text.is_empty() || text.len() > 1024 {
         return Err(Refused::Fault(CredFault::Length));
@@ -46,44 +82,68 @@ fn read_clear(alloc: Global, text: &[u8]) -> Result<StoredCred, Refused<CredFaul
     if !is_password(text) {
         return Err(Refused::Fault(CredFault::Text));
     }
-    Ok(StoredCred::Clear(Bytes::copy_of(alloc, text)?))
+    Ok(Credential::Clear(Bytes::copy_of(alloc, text)?))
+}
+
+/// The credential of a kind and a text.
+#[tactic(auto, unfolding(crate::specs::Creds::cred_of))]
+fn read_credential(
+    alloc: Global,
+    kind: &[u8],
+    text: &[u8],
+) -> Result<Credential, Refused<CredFault>>
+    ensures value { Gives result (cred_of kind.now text.now) }
+    ensures bounds { IfOk result (λ c. IsTrue (is_stored c)) }
+{
+    if kind == b"clear".as_slice() {
+        read_clear(alloc, text)
+    } else if kind == b"scram-sha-1".as_slice() {
+        Ok(Credential::Scram1(read_salted(alloc, 20, text)?))
+    } else if kind == b"scram-sha-256".as_slice() {
+        Ok(Credential::Scram256(read_salted(alloc, 32, text)?))
+    } else if kind == b"digest-md5".as_slice() {
+        Ok(Credential::DigestMd5(read_hashed(alloc, 16, text)?))
+    } else if kind == b"digest-sha-256".as_slice() {
+        Ok(Credential::DigestSha256(read_hashed(alloc, 32, text)?))
+    } else {
+        Err(Refused::Fault(CredFault::Kind))
+    }
 }
 
 impl StoredCred {
-    /// Reads a credential of a kind from its text, or says its first fault: for `clear` the length of the password, 1 to
-    /// 1,024 bytes, and then its bytes, which are UTF-8 without NUL and LF.
+    /// Reads a credential of a kind from its text, or says its first fault. The kinds are `clear` (the password),
+    /// `scram-sha-1` and `scram-sha-256` (`TURNS:SALT:KEY`, a number and two base64 texts), `digest-md5` and
+    /// `digest-sha-256` (`HEX:REALM`, a hash in hexadecimal and a realm). The faults come in this order: of `clear` the
+    /// length, then the text; of SCRAM the turns, also where a colon is missing, the base64 of the salt, that of the key,
+    /// then a length; of Digest the hexadecimal, also where the colon is missing, the length of the hash, that of the
+    /// realm, then the realm's text.
     pub fn read(alloc: Global, kind: &[u8], text: &[u8]) -> Result<StoredCred, Refused<CredFault>>
         ensures { Gives result (cred_of kind.now text.now) }
     {
-        if !is_kind(kind) {
-            return Err(Refused::Fault(CredFault::Kind));
-        }
-        read_clear(alloc, text)
+        Ok(StoredCred {
+            credential: read_credential(alloc, kind, text)?,
+        })
+    }
+
+    /// The credential by its kind.
+    pub fn credential(&self) -> &Credential
+        ensures value { result.now ≡ self.now }
+        ensures bounds { IsTrue (is_stored self.now) }
+    {
+        &self.credential
     }
 
     /// An equal credential.
     pub fn copy(&self, alloc: Global) -> Result<StoredCred, NoMemory>
         ensures { IfOk result (λ copy. copy ≡ self.now) }
     {
-        match self {
-            StoredCred::Clear(password) => Ok(StoredCred::Clear(password.copy(alloc)?)),
-        }
+        let credential = match &self.credential {
+            Credential::Clear(password) => Credential::Clear(password.copy(alloc)?),
+            Credential::Scram1(salted) => Credential::Scram1(salted.copy(alloc)?),
+            Credential::Scram256(salted) => Credential::Scram256(salted.copy(alloc)?),
+            Credential::DigestMd5(ha1) => Credential::DigestMd5(ha1.copy(alloc)?),
+            Credential::DigestSha256(ha1) => Credential::DigestSha256(ha1.copy(alloc)?),
+        };
+        Ok(StoredCred { credential })
     }
-}
-
-/// Why a text is no credential.
-#[derive(Clone, Copy, Debug, PartialEq, Eq)]
-pub enum CredFault {
-    /// There is no such kind.
-    Kind,
-    /// The number of turns is none, or out of its range.
-    Turns,
-    /// A text isn't base64.
-    Base64,
-    /// A text isn't hexadecimal.
-    Hex,
-    /// A part is too short or too long.
-    Length,
-    /// A part has bytes that may not stand in it.
-    Text,
 }

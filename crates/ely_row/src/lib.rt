@@ -1,25 +1,35 @@
 //! Identities and the edits that make them: mechanisms, stored credentials, values of attributes, rows, places, and which
-//! edits touch which places. It stands on `ely_base` alone, and its definitions say what a journal of edits makes of a name.
+//! edits touch which places. It stands on `ely_base` and, for the type of a digest, on `ely_hash`; its definitions say what
+//! a journal of edits makes of a name.
 #![tactic(auto)]
 
 mod change;
 mod cred;
+mod cut;
 mod deps;
 mod edit;
-mod laws;
+mod fault;
+mod ha1;
 mod mech;
+mod params;
 mod place;
 mod row;
+mod salted;
+mod shared;
 mod values;
 
-pub use change::{row_after, row_fault};
-pub use cred::{CredFault, StoredCred, is_kind};
+pub use change::{changed, row_fault};
+pub use cred::{Credential, StoredCred, is_kind};
 pub use deps::{Deps, touches};
 pub use edit::{Edit, EditFault, PropFault};
-pub use laws::journals_suit;
+pub use fault::CredFault;
+pub use ha1::Ha1;
 pub use mech::Mech;
+pub use params::Params;
 pub use place::{PipeFault, Place};
 pub use row::Row;
+pub use salted::{Salted, is_salt};
+pub use shared::{RowSource, SharedRow};
 pub use values::Values;
 
 #[cfg(test)]

@@ -1,10 +1,10 @@
 //! An identity: its credentials by their slots and its attributes by their names.
 
-ghost use Rattle.std.specs.Prelude.{◌≡◌, ◌≤◌, IsTrue, length, IfOk};
+ghost use Rattle.std.specs.Prelude.{◌≡◌, ◌≤◌, IsTrue, length, IfOk, OnOk};
 ghost use Rattle.std.specs.Option.{option_copied};
 ghost use Rattle.std.specs.Ordering.{nat_cmp};
-ghost use Rattle.std.specs.BTreeMap.{IsOrdered};
-ghost use Rattle.ely_row.specs.Rows.{IsRow, name_cmp, no_row, ready, has_cred, has_attr, attr_of, has_cred_room, has_attr_room, with_cred, without_cred, with_attr, without_attr};
+ghost use Rattle.std.specs.BTreeMap.{IsOrdered, insert_entry};
+ghost use Rattle.ely_row.specs.Rows.{IsRow, name_cmp, no_row, cred_of, has_cred, has_attr, attr_of, has_cred_room, has_attr_room, with_cred, without_cred, with_attr, without_attr};
 
 use crate::cred::StoredCred;
 use crate::values::Values;
@@ -37,6 +37,19 @@ impl Model for Row {
     ghost invariant = { λ r. IsRow (record { creds = r.creds.entries; attrs = r.attrs.entries }) };
 }
 
+/// Puts a credential in a slot, in place of what stood there.
+fn put_cred(
+    creds: &mut BTreeMap<u8, StoredCred>,
+    slot: u8,
+    cred: StoredCred,
+) -> Result<(), NoMemory>
+    ensures entries { OnOk result (creds.new.entries ≡ insert_entry nat_cmp creds.old.entries slot cred) }
+    ensures rise { IsOrdered nat_cmp creds.new }
+{
+    creds.insert(slot, cred)?;
+    Ok(())
+}
+
 /// Equal credentials in the same slots.
 fn copy_creds(
     alloc: Global,
@@ -47,7 +60,7 @@ fn copy_creds(
 {
     let mut copy = BTreeMap::new(alloc);
     for (slot, cred) in creds {
-        copy.insert(*slot, cred.copy(alloc)?)?;
+        put_cred(&mut copy, *slot, cred.copy(alloc)?)?;
     }
     Ok(copy)
 }
@@ -114,14 +127,19 @@ impl Row {
         self.attrs.get(attr)
     }
 
-    /// The credential of the lowest slot.
-    pub fn ready(&self) -> Option<&StoredCred>
-        ensures { option_copied result ≡ ready self.now }
+    /// The credential of the slot.
+    pub fn cred(&self, slot: u8) -> Option<&StoredCred>
+        ensures { option_copied result ≡ cred_of slot self.now }
     {
-        match self.creds.first_key_value() {
-            None => None,
-            Some((_, cred)) => Some(cred),
-        }
+        self.creds.get(&slot)
+    }
+
+    /// The credentials by their slots, the slots rising.
+    pub fn creds(&self) -> &BTreeMap<u8, StoredCred>
+        ensures entries { result.now.entries ≡ self.now.creds }
+        ensures rise { IsOrdered nat_cmp result.now }
+    {
+        &self.creds
     }
 
     /// Whether a credential may be put into the slot: one is there, or fewer than 8 are in all.
@@ -175,6 +193,7 @@ impl Row {
         attrs.remove(attr);
         Row { creds, attrs }
     }
+
     /// An equal identity.
     pub fn copy(&self, alloc: Global) -> Result<Row, NoMemory>
         ensures { IfOk result (λ copy. copy ≡ self.now) }

@@ -1,5 +1,8 @@
-use crate::{Deps, Edit, EditFault, Row, StoredCred, Values, row_after, row_fault, touches};
-use ely_base::{Bytes, Name, NoMemory};
+use crate::{
+    CredFault, Credential, Deps, Edit, EditFault, Params, Row, SharedRow, StoredCred, Values,
+    changed, row_fault, touches,
+};
+use ely_base::{Name, NoMemory, Refused};
 use std::alloc::Global;
 use std::test::Fail;
 
@@ -11,7 +14,10 @@ fn name(alloc: Global, text: &[u8]) -> Result<Name, NoMemory> {
 }
 
 fn clear(alloc: Global, text: &[u8]) -> Result<StoredCred, NoMemory> {
-    Ok(StoredCred::Clear(Bytes::copy_of(alloc, text)?))
+    match StoredCred::read(alloc, b"clear", text) {
+        Ok(cred) => Ok(cred),
+        Err(_) => Err(NoMemory),
+    }
 }
 
 fn names(alloc: Global, count: u8) -> Result<Vec<Name>, NoMemory> {
@@ -93,30 +99,146 @@ fn one_to_64_values_are_kept(rt: HostRuntime) -> Result<(), Fail> {
     Ok(())
 }
 
+/// The password in the slot, where one is there in the clear.
+fn password(row: &Row, slot: u8) -> &[u8] {
+    match row.cred(slot) {
+        None => b"",
+        Some(cred) => match cred.credential() {
+            Credential::Clear(password) => password.bytes(),
+            _ => b"",
+        },
+    }
+}
+
+/// The row with the edit made, where it is there and takes it.
+fn after(alloc: Global, row: Option<Row>, edit: &Edit) -> Result<Option<Row>, NoMemory> {
+    match row_fault(0, row.as_ref(), edit) {
+        None => changed(alloc, row.as_ref(), edit),
+        Some(_) => Ok(None),
+    }
+}
+
 #[test]
-fn the_lowest_slot_is_ready_also_in_a_copy(rt: HostRuntime) -> Result<(), Fail> {
-    let mut row = Row::new(rt.alloc());
-    for (slot, text) in [(9u8, b"high"), (2, b"low?"), (2, b"low!")] {
-        if row.has_cred_room(slot) {
-            row = row.with(slot, clear(rt.alloc(), text)?)?;
+fn edits_make_rows_and_take_them_away(rt: HostRuntime) -> Result<(), Fail> {
+    let groups = name(rt.alloc(), b"groups")?;
+    let mut row = None;
+    let mut shown = Vec::new(rt.alloc());
+    for edit in edits(rt.alloc())?.as_slice() {
+        row = after(rt.alloc(), row, edit)?;
+        match &row {
+            None => shown.push((9, 9))?,
+            Some(row) => shown.push((row.cred_count(), row.attr_count()))?,
+        }
+        if let Some(row) = &row
+            && row.has_cred(7)
+        {
+            let copy = SharedRow::new(rt.alloc(), row.copy(rt.alloc())?)?.share()?;
+            assert_eq!(rt; password(copy.row(), 7), b"pencil".as_slice());
+            assert!(rt; copy.row().attr(&groups).is_some() == row.has_attr(&groups));
         }
     }
-    let groups = name(rt.alloc(), b"groups")?;
-    if row.has_attr_room(&groups) {
-        row = row.with_attr(groups.copy(rt.alloc())?, values(rt.alloc(), 3)?)?;
-    }
-    let copy = row.copy(rt.alloc())?;
-    assert!(rt; copy.cred_count() == 2 && copy.attr_count() == 1);
     assert_eq!(rt;
-        copy.attr(&groups).map_or(0, |values| values.all().len()),
-        3
+        shown.as_slice(),
+        [(0, 0), (1, 0), (1, 1), (0, 1), (0, 0), (9, 9)].as_slice()
     );
-    match copy.ready() {
-        Some(StoredCred::Clear(password)) => assert_eq!(rt; password.bytes(), b"low!".as_slice()),
-        None => assert!(rt; false),
+    Ok(())
+}
+
+/// The fault of a credential's text, if it has one.
+fn fault(alloc: Global, kind: &[u8], text: &[u8]) -> Option<CredFault> {
+    match StoredCred::read(alloc, kind, text) {
+        Err(Refused::Fault(fault)) => Some(fault),
+        _ => None,
     }
-    let bare = copy.without(2).without(9).without_attr(&groups);
-    assert!(rt; bare.ready().is_none() && !bare.has_attr(&groups) && !bare.has_cred(9));
+}
+
+#[test]
+fn the_first_fault_of_a_salted_password_is_told(rt: HostRuntime) -> Result<(), Fail> {
+    let rows: [(&[u8], Option<CredFault>); 9] = [
+        (b"2:c2FsdA==:6mwBTcctb4zNHtkqzh1B8NjeiVc=", None),
+        (b"1000000:c2FsdA==:6mwBTcctb4zNHtkqzh1B8NjeiVc=", None),
+        (b"0:!:6mwBTcctb4zNHtkqzh1B8NjeiVc=", Some(CredFault::Turns)),
+        (
+            b"1000001:c2FsdA==:6mwBTcctb4zNHtkqzh1B8NjeiVc=",
+            Some(CredFault::Turns),
+        ),
+        (b"2:c2FsdA==", Some(CredFault::Turns)),
+        (b"2:!:", Some(CredFault::Base64)),
+        (b"2::c2F:sdA==", Some(CredFault::Base64)),
+        (b"2::6mwBTcctb4zNHtkqzh1B8NjeiVc=", Some(CredFault::Length)),
+        (b"2:c2FsdA==:c2FsdA==", Some(CredFault::Length)),
+    ];
+    for (text, wanted) in rows {
+        assert!(rt; fault(rt.alloc(), b"scram-sha-1", text) == wanted);
+    }
+    assert!(rt; fault(rt.alloc(), b"scram-sha-256", rows[0].0) == Some(CredFault::Length));
+    assert!(rt; fault(rt.alloc(), b"scram", rows[0].0) == Some(CredFault::Kind));
+    Ok(())
+}
+
+#[test]
+fn the_first_fault_of_a_hash_is_told(rt: HostRuntime) -> Result<(), Fail> {
+    let rows: [(&[u8], Option<CredFault>); 6] = [
+        (
+            b"939e7578ed9e3c518a452acee763bce9:testrealm@host.com:8080",
+            None,
+        ),
+        (b"939E7578ED9E3C518A452ACEE763BCE9", Some(CredFault::Hex)),
+        (b"939e7578ed9e3c518a452acee763bce:", Some(CredFault::Hex)),
+        (b"939e:", Some(CredFault::Length)),
+        (
+            b"939e7578ed9e3c518a452acee763bce9:",
+            Some(CredFault::Length),
+        ),
+        (
+            b"939e7578ed9e3c518a452acee763bce9:a\\b",
+            Some(CredFault::Text),
+        ),
+    ];
+    for (text, wanted) in rows {
+        assert!(rt; fault(rt.alloc(), b"digest-md5", text) == wanted);
+    }
+    assert!(rt; fault(rt.alloc(), b"digest-sha-256", rows[0].0) == Some(CredFault::Length));
+    Ok(())
+}
+
+/// What the credential is of, in a copy: its turns, or 0, and the length of its secret.
+fn shape(alloc: Global, kind: &[u8], text: &[u8]) -> Result<(u32, usize), NoMemory> {
+    let Ok(cred) = StoredCred::read(alloc, kind, text) else {
+        return Err(NoMemory);
+    };
+    let copy = cred.copy(alloc)?;
+    match copy.credential() {
+        Credential::Clear(password) => Ok((0, password.bytes().len())),
+        Credential::Scram1(salted) => Ok((salted.turns(), salted.salted().bytes().len())),
+        Credential::Scram256(salted) => Ok((salted.turns(), salted.salt().bytes().len())),
+        Credential::DigestMd5(ha1) => Ok((0, ha1.hash().bytes().len())),
+        Credential::DigestSha256(ha1) => Ok((0, ha1.realm().bytes().len())),
+    }
+}
+
+fn crosses<T: Send + Sync>() {}
+
+#[test]
+fn credentials_of_every_kind_are_copied_whole(rt: HostRuntime) -> Result<(), Fail> {
+    crosses::<Row>();
+    crosses::<SharedRow>();
+    crosses::<Edit>();
+    crosses::<Deps>();
+    crosses::<Params>();
+    let salted = b"2:c2FsdA==:6mwBTcctb4zNHtkqzh1B8NjeiVc=";
+    let longer = b"3:c2FsdA==:AAECAwQFBgcICQoLDA0ODxAREhMUFRYXGBkaGxwdHh8=";
+    let hashed = b"939e7578ed9e3c518a452acee763bce9:testrealm@host.com";
+    let double = b"939e7578ed9e3c518a452acee763bce9939e7578ed9e3c518a452acee763bce9:a:b";
+    assert!(rt; shape(rt.alloc(), b"clear", b"pencil")? == (0, 6));
+    assert!(rt; shape(rt.alloc(), b"scram-sha-1", salted)? == (2, 20));
+    assert!(rt; shape(rt.alloc(), b"scram-sha-256", longer)? == (3, 4));
+    assert!(rt; shape(rt.alloc(), b"digest-md5", hashed)? == (0, 16));
+    assert!(rt; shape(rt.alloc(), b"digest-sha-256", double)? == (0, 3));
+    let params = Params::plain(rt.alloc()).copy(rt.alloc())?;
+    assert!(rt;
+        params.turns() == 4096 && params.salt().is_none() && params.seed().bytes().is_empty()
+    );
     Ok(())
 }
 

@@ -5,14 +5,8 @@ use Rattle.std.specs.Map.Iter.{deref_pair}
 use Rattle.ely_row.proofs.Appended.{copied_more}
 use Rattle.ely_row.proofs.row.copy_creds.Goals as goal
 
-pub loop-slot-preserved-in_ok-insert : goal.loop-slot-preserved-in_ok-insert
-loop-slot-preserved-in_ok-insert c =
-    let kept = c.loop-slot.invariant in
-    let first = rest_more deref_pair c.loop-slot.slot-iterator c.next.new.self c.next.result (c.in-Some.slot, c.in-Some.cred) c.in-Some.is c.next.ensures.steps in
-    (copied_more nat_cmp_total _ _ _ _ _ _ _ _ _ kept.0 first kept.2 refl c.in_ok-copy.ensures c.in_ok-insert.ensures.entries, c.insert.ensures.ordered, kept.2)
-
 pub loop-slot-preserved : goal.loop-slot-preserved
 loop-slot-preserved c =
     let kept = c.loop-slot.invariant in
     let first = rest_more deref_pair c.loop-slot.slot-iterator c.next.new.self c.next.result (c.in-Some.slot, c.in-Some.cred) c.in-Some.is c.next.ensures.steps in
-    (copied_more nat_cmp_total _ _ _ _ _ _ _ _ _ kept.0 first kept.2 refl c.in_ok-copy.ensures c.in_ok-insert.ensures.entries, c.insert.ensures.ordered, kept.2)
+    (copied_more nat_cmp_total _ _ _ _ _ _ _ _ _ kept.0 first kept.2 refl c.in_ok-copy.ensures c.in_ok-put_cred.ensures.entries, c.put_cred.ensures.rise, kept.2)
