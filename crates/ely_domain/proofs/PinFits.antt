@@ -13,8 +13,8 @@ use Rattle.ely_script.specs.declared.claim.Evidence.{Evidence}
 use Rattle.ely_script.specs.declared.outcome.Outcome.{Outcome}
 use Rattle.ely_script.specs.declared.outcome.Outcome.TheVariants as outcomes
 use Rattle.ely_script.specs.declared.word.StateWord.TheVariants as states
-use Rattle.ely_domain.specs.Machine.{Given, Machine, Login, Pinned, Answered, login_of, with_login, when_pinned, moved, checking, ident, ready_at, naming_fault, name2, is_carried, checked_first, check1, verdict, check2, grants, authorize, allows, roles, succeed, begin, changed, step, name1, named_unless, loading, place_of, is_other, can_fail, failed_by, fail, closed_by, close, without_login}
-use Rattle.ely_row.specs.Rows.{fault}
+use Rattle.ely_domain.specs.Machine.{realms, Given, Machine, Login, Pinned, Answered, login_of, with_login, when_pinned, moved, checking, ident, chosen_at, naming_fault, name2, is_carried, checked_first, check1, verdict, check2, grants, authorize, allows, roles, succeed, begin, changed, step, name1, named_unless, loading, place_of, is_other, can_fail, failed_by, fail, closed_by, close, without_login}
+use Rattle.ely_table.specs.Faults.{fault}
 use Rattle.ely_domain.specs.Lines.{Taken}
 use Rattle.ely_domain.specs.Histories.{IsRun, machine_after}
 use Rattle.ely_row.specs.declared.edit.EditFault.{EditFault}
@@ -52,7 +52,7 @@ KeepsPin c d p r = PinFits (login_of r.1 c) (cond (eqb d c) p p)
 
 fault_pins_nothing : (edits : List Edit) (version : ℕ) (place : Place) (fault : Outcome) (x : CtxId) (claim : Claim) → naming_fault edits version place ≡ Some fault → pinned_by (events.Name1 x claim) fault ≡ None
 unfolding naming_fault
-fault_pins_nothing edits version place fault x claim h = by_tests (is_some (ident edits version place)) (is_some (ready_at edits version place)) h
+fault_pins_nothing edits version place fault x claim h = by_tests (is_some (ident edits version place)) (is_some (chosen_at edits version place)) h
   where
     by_tests : (a b : Bool) → cond a (cond b None (Some outcomes.NoCredential)) (Some outcomes.Unknown) ≡ Some fault → pinned_by (events.Name1 x claim) fault ≡ None
     by_tests true true e = cc
@@ -166,7 +166,7 @@ change_pin m c edit p (Some f) fits = fits
 step_pin : (given : Given) (m : Machine) (c : ℕ) (p : Option (ℕ × Place)) (event : Event) → PinFits (login_of m.live c) p → PinFits (login_of (step given m event).1.live c) (pin_after c p event (step given m event).0)
 unfolding step
 step_pin given m c p (events.Bad bad) fits = fits
-step_pin given m c p (events.Change edit) fits = change_pin m c edit p (fault given.limit m.edits edit) fits
+step_pin given m c p (events.Change edit) fits = change_pin m c edit p (fault realms given.limit m.edits edit) fits
 step_pin given m c p (events.Begin d mech opening) fits = begin_pin m c d.0 p fits
 step_pin given m c p (events.Name1 d claim) fits = name1_pin m.live c d.0 p fits m.edits d claim
 step_pin given m c p (events.Name2 d serial) fits = name2_pin m.live c d.0 p fits serial.0

@@ -1,5 +1,5 @@
 -- What is answered of a pin.
-use Rattle.std.proofs.Common.{◌≡◌, ℕ, ◌≤◌, true, cond, List, Option, Some, None, refl, codes}
+use Rattle.std.proofs.Common.{◌≡◌, ℕ, true, cond, List, Option, Some, None, refl, codes}
 use Rattle.std.specs.Option.{option_map}
 use Rattle.std.proofs.lemmas.Option.{same_Some}
 use Rattle.ely_row.specs.declared.edit.Edit.{Edit}
@@ -8,11 +8,11 @@ use Rattle.ely_domain.specs.declared.context.Prepared.{Prepared}
 use Rattle.ely_script.specs.declared.word.StateWord.{StateWord}
 use Rattle.ely_script.specs.declared.outcome.Outcome.TheVariants as outcomes
 use Rattle.ely_domain.specs.Machine.{Login, Pinned, Answered, when_pinned, roles, grants}
-use Rattle.ely_domain.specs.Contexts.{pinned, prepared_for, IsPast}
+use Rattle.ely_domain.specs.Contexts.{prepared_for, IsPast, IsOfItsTime}
 
--- the version of a pin that is there is past
-pub past_of : (version : ℕ) (kept : Option Pin) (pin : Pin) → IsPast version (option_map pinned kept) → kept ≡ Some pin → pin.version ≤ version
-past_of version kept pin past is = rw is at past
+-- a pin that is there is one of its time
+pub past_of : (edits : List Edit) (kept : Option Pin) (pin : Pin) → IsPast edits kept → kept ≡ Some pin → IsOfItsTime edits pin
+past_of edits kept pin past is = rw is at past
 
 module _ (edits : List Edit) (live new : List (ℕ × Login)) (state : StateWord) where
   -- what was prepared for the pin is handed out

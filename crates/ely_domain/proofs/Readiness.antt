@@ -22,9 +22,9 @@ use Rattle.ely_script.specs.declared.word.StepWord.TheVariants as words
 use Rattle.ely_script.specs.declared.outcome.Outcome.{Outcome}
 use Rattle.ely_script.specs.declared.outcome.Outcome.TheVariants as outcomes
 use Rattle.ely_script.specs.Words.{same_state, same_word, state_number, is_accepted}
-use Rattle.ely_domain.specs.Machine.{Given, Machine, Login, Pinned, Answered, login_of, with_login, when_in, when_pinned, when_carried, in_state, carried_in, roles, moved, loading, checking, named_unless, naming_fault, ident, ready_at, place_of, name1, name2, checked_first, is_carried, check1, verdict, check2, grants, authorize, allows, succeed, is_other, can_fail, failed_by, fail, closed_by, close, without_login, begin, changed, step}
+use Rattle.ely_domain.specs.Machine.{realms, Given, Machine, Login, Pinned, Answered, login_of, with_login, when_in, when_pinned, when_carried, in_state, carried_in, roles, moved, loading, checking, named_unless, naming_fault, ident, chosen_at, place_of, name1, name2, checked_first, is_carried, check1, verdict, check2, grants, authorize, allows, succeed, is_other, can_fail, failed_by, fail, closed_by, close, without_login, begin, changed, step}
 use Rattle.ely_domain.specs.Histories.{is_end, is_ready_since, is_established, accepted_word}
-use Rattle.ely_row.specs.Rows.{fault}
+use Rattle.ely_table.specs.Faults.{fault}
 use Rattle.ely_domain.proofs.WordLists.{next, IsAt, moved_on, ended}
 
 -- it has a pin, and has come as far as what is wanted says
@@ -190,7 +190,7 @@ carried_cases P live d state serial answer gone accepted = carried_from P live d
 -- what bars a naming is a refusal
 naming_fault_refuses : (edits : List Edit) (version : ℕ) (place : Place) (fault : Outcome) → naming_fault edits version place ≡ Some fault → is_accepted fault ≡ false
 unfolding naming_fault
-naming_fault_refuses edits version place fault h = by_tests (is_some (ident edits version place)) (is_some (ready_at edits version place)) h
+naming_fault_refuses edits version place fault h = by_tests (is_some (ident edits version place)) (is_some (chosen_at edits version place)) h
   where
     by_tests : (a b : Bool) → cond a (cond b None (Some outcomes.NoCredential)) (Some outcomes.Unknown) ≡ Some fault → is_accepted fault ≡ false
     by_tests true true e = cc
@@ -356,7 +356,7 @@ change_keeps m c edit s (Some fault) fits = fits
 pub step_keeps : (given : Given) (m : Machine) (c : ℕ) (s : Option (List StepWord)) (event : Event) → Fits (login_of m.live c) s → KeepsAll c s event (step given m event)
 unfolding step
 step_keeps given m c s (events.Bad bad) fits = fits
-step_keeps given m c s (events.Change edit) fits = change_keeps m c edit s (fault given.limit m.edits edit) fits
+step_keeps given m c s (events.Change edit) fits = change_keeps m c edit s (fault realms given.limit m.edits edit) fits
 step_keeps given m c s (events.Begin d mech opening) fits = begin_keeps m c d mech opening s fits
 step_keeps given m c s (events.Name1 d claim) fits = name1_keeps m.live c d.0 s fits m.edits claim
 step_keeps given m c s (events.Name2 d serial) fits = name2_keeps m.live c d.0 s fits serial.0

@@ -5,6 +5,7 @@ use Rattle.ely_script.specs.declared.word.StateWord.TheVariants.{Absent}
 use Rattle.ely_script.specs.declared.outcome.Outcome.TheVariants.{State, Gone}
 use Rattle.ely_script.specs.Words.{same_state}
 use Rattle.ely_domain.specs.Machine.{Login, Answered, login_of, in_state, carried_in}
+use Rattle.ely_domain.specs.Costs.{carried_cost}
 
 module _ (live : List (ℕ × Login)) (c : ℕ) (state : StateWord) (answer : Login → Answered) where
   pub in_state-absent : login_of live c ≡ None → in_state live c state answer ≡ (State Absent, live)
@@ -34,6 +35,11 @@ module _ (live : List (ℕ × Login)) (c : ℕ) (state : StateWord) (answer : Lo
   pub carried_in-same : (serial : ℕ) (l : Login) → login_of live c ≡ Some l → same_state l.state state ≡ true → eqb l.serial serial ≡ true → carried_in live c state serial answer ≡ answer l
   unfolding carried_in
   carried_in-same serial l h e s = rw h (rw e (rw s refl))
+
+module _ (live : List (ℕ × Login)) (c : ℕ) (state : StateWord) (cost : Login → ℕ) where
+  pub carried_cost-same : (serial : ℕ) (l : Login) → login_of live c ≡ Some l → same_state l.state state ≡ true → eqb l.serial serial ≡ true → carried_cost live c state serial cost ≡ cost l
+  unfolding carried_cost
+  carried_cost-same serial l h e s = rw h (rw e (rw s refl))
 
 pub ruleset state_rules = (in_state-absent, in_state-other, in_state-same)
 

@@ -1,4 +1,4 @@
-pub mod Journals
+pub mod Costs
 pub mod Machine
 pub mod Contexts
 pub mod Found

@@ -2,9 +2,10 @@
 use Rattle.std.specs.Prelude.{ℕ, ◌+◌, ◌==◌, Bool, true, false, if◌then◌else◌, nat_le, List, [], ◌∷◌, ◌++◌, length, take, fold, filter, not, Option, Some, None, is_some, codes}
 use Rattle.std.specs.Option.{option_map, option_and_then}
 use Rattle.std.specs.Str.{bytes_eq}
-use Rattle.ely_row.specs.declared.cred.StoredCred.{StoredCred}
-use Rattle.ely_row.specs.declared.cred.StoredCred.TheVariants.{Clear}
+use Rattle.ely_row.specs.declared.cred.Credential.{Credential}
 use Rattle.ely_row.specs.declared.edit.Edit.{Edit}
+use Rattle.ely_row.specs.declared.mech.Mech.TheVariants as mechs
+use Rattle.ely_row.specs.Salts.{plain_derivation}
 use Rattle.ely_row.specs.declared.edit.EditFault.{EditFault}
 use Rattle.ely_domain.specs.declared.event.Event.{Event}
 use Rattle.ely_domain.specs.declared.event.Event.TheVariants as events
@@ -18,7 +19,12 @@ use Rattle.ely_script.specs.declared.claim.Evidence.{Evidence}
 use Rattle.ely_script.specs.declared.claim.Evidence.TheVariants as evidences
 use Rattle.ely_row.specs.declared.place.Place.{Place}
 use Rattle.std.specs.BTreeSet.{insert_key}
-use Rattle.ely_row.specs.Rows.{Identity, row, fault, ready, main_realm, name_cmp, attr_of}
+use Rattle.ely_row.specs.Rows.{Identity, row, name_cmp, attr_of}
+use Rattle.ely_cred.specs.Keys.{Keyed, chosen, ready_of}
+use Rattle.ely_cred.specs.Guesses.{proves}
+use Rattle.ely_table.specs.declared.class.RealmClass.{RealmClass}
+use Rattle.ely_table.specs.declared.class.RealmClass.TheVariants.{Modifiable}
+use Rattle.ely_table.specs.Faults.{fault}
 use Rattle.ely_script.specs.Words.{same_state}
 
 -- what a naming pinned: the number of edits that count, and whom they are asked about
@@ -41,6 +47,13 @@ pub record Machine : Type 0 where
 
 abbrev pub first_machine : Machine
 first_machine = record { edits = []; live = []; opened = 0 }
+
+-- the one realm that there is
+unfoldable pub main_realm : List ℕ
+main_realm = codes "main"
+
+abbrev pub realms : List (List ℕ × RealmClass)
+realms = (main_realm, Modifiable) ∷ []
 
 -- what a domain was made with
 pub record Given : Type 0 where
@@ -97,18 +110,22 @@ place_of (claims.Plain authzid name) = record { realm = main_realm; name = name 
 unfoldable pub ident : List Edit → ℕ → Place → Option Identity
 ident edits version place = row (take version edits) place.realm place.name
 
--- the credential that a place had at a version
-unfoldable pub ready_at : List Edit → ℕ → Place → Option StoredCred
-ready_at edits version place = option_and_then ready (ident edits version place)
+-- the credential that a place had at a version, with its slot
+unfoldable pub chosen_at : List Edit → ℕ → Place → Option (ℕ × Credential)
+chosen_at edits version place = option_and_then (chosen mechs.Plain) (ident edits version place)
+
+-- the key that is derived of it
+unfoldable pub ready_at : List Edit → ℕ → Place → Option Keyed
+ready_at edits version place = option_and_then (ready_of plain_derivation place.realm place.name mechs.Plain) (ident edits version place)
 
 -- the evidence shows that the credential is known
-abbrev pub proves : StoredCred → Evidence → Bool
-proves (Clear password) (evidences.Plain given) = bytes_eq given password
+abbrev pub shows : Keyed → Evidence → Bool
+shows ready (evidences.Plain given) = proves ready.name ready.cred given
 
-abbrev pub is_proved : Option StoredCred → Option Evidence → Bool
+abbrev pub is_proved : Option Keyed → Option Evidence → Bool
 is_proved None given = false
-is_proved (Some cred) None = false
-is_proved (Some cred) (Some given) = proves cred given
+is_proved (Some ready) None = false
+is_proved (Some ready) (Some given) = shows ready given
 
 abbrev pub verdict : List Edit → Option Pinned → Option Evidence → Bool
 verdict edits None given = false
@@ -165,7 +182,7 @@ checking login given = record { serial = login.serial; state = states.Checking; 
 unfoldable pub naming_fault : List Edit → ℕ → Place → Option Outcome
 naming_fault edits version place =
     if is_some (ident edits version place)
-    then (if is_some (ready_at edits version place) then None else Some outcomes.NoCredential)
+    then (if is_some (chosen_at edits version place) then None else Some outcomes.NoCredential)
     else Some outcomes.Unknown
 
 abbrev pub named_unless : List Edit → List (ℕ × Login) → ℕ → Claim → Login → Option Outcome → Answered
@@ -279,6 +296,6 @@ login_answer edits live _ = (outcomes.Gone, live)
 
 unfoldable pub step : Given → Machine → Event → Outcome × Machine
 step given m (events.Bad bad) = (outcomes.Bad bad, m)
-step given m (events.Change edit) = changed m edit (fault given.limit m.edits edit)
+step given m (events.Change edit) = changed m edit (fault realms given.limit m.edits edit)
 step given m (events.Begin c mech _) = begin m c.0
 step given m event = of_logins m (login_answer m.edits m.live event)

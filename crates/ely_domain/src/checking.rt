@@ -1,66 +1,39 @@
-//! Checking a login in two steps: what it shows, and whether that holds at the pinned version.
+//! Checking a login in two steps: what it shows, and whether that holds for its key.
 
-ghost use Rattle.std.specs.Prelude.{◌≡◌, ◌≤◌, length, List, IfOk, OnErr, None, Some};
+ghost use Rattle.std.specs.Prelude.{◌≡◌, ◌≤◌, ◌+◌, List, IfSome};
 ghost use Rattle.std.specs.Option.{option_map};
 ghost use Rattle.ely_row.specs.declared.edit.Edit.{Edit};
-ghost use Rattle.ely_domain.specs.Machine.{ready_at, is_carried, proves, verdict, checked_first, check1, check2};
-ghost use Rattle.ely_domain.specs.Journals.{IsJournal};
-ghost use Rattle.ely_domain.specs.Contexts.{login, logins, AreSound, IsPast, pinned};
+ghost use Rattle.ely_domain.specs.Machine.{is_carried, is_proved, checked_first, check1, check2};
+ghost use Rattle.ely_domain.specs.Costs.{carried_cost, check_cost, key_cost};
+ghost use Rattle.ely_domain.specs.Contexts.{login, logins, AreSound};
 
 use crate::context::{
-    Context, Pin, context_carried, context_in, context_of, set_evidence, set_state,
+    Context, context_carried, context_in, context_of, set_evidence, set_state,
 };
-use crate::naming::row_at;
-use ely_base::{CtxId, NoMemory, Serial};
-use ely_row::{Edit, StoredCred};
+use ely_base::{CtxId, Serial};
+use ely_cred::{Ready, guess};
+use ely_hash::Steps;
+use ely_row::Mech;
 use ely_script::{Evidence, Outcome, StateWord};
-use std::alloc::Global;
+use ely_table::Tables;
+use std::sync::ledger::Ledger;
 
-/// Whether the evidence shows that the credential is known.
-fn proves(cred: &StoredCred, evidence: &Evidence) -> bool
-    ensures { result ≡ proves cred.now evidence.now }
-{
-    match (cred, evidence) {
-        (StoredCred::Clear(password), Evidence::Plain { password: given }) => {
-            given.bytes() == password.bytes()
-        }
-    }
-}
-
-#[tactic(auto, unfolding(crate::specs::Machine::ready_at))]
-fn is_proved_at(
-    alloc: Global,
-    edits: &[Edit],
-    pin: &Pin,
-    evidence: &Evidence,
-) -> Result<bool, NoMemory>
-    requires version { pin.now.version ≤ length edits.now }
-    requires journal { IsJournal edits.now }
-    ensures { IfOk result (λ proved. proved ≡ verdict edits.now (Some (pinned pin.now)) (Some evidence.now)) }
-{
-    let Some(row) = row_at(alloc, edits, pin.version as usize, &pin.place)? else {
-        return Ok(false);
-    };
-    let Some(cred) = row.ready() else {
-        return Ok(false);
-    };
-    Ok(proves(cred, evidence))
-}
-
-/// The evidence fits the credential of the pinned version.
-fn verdict(
-    alloc: Global,
-    edits: &[Edit],
-    pin: &Option<Pin>,
+/// Whether the evidence fits the key.
+fn is_proved<L: Ledger>(
+    ready: &Option<Ready>,
     evidence: &Option<Evidence>,
-) -> Result<bool, NoMemory>
-    requires past { IsPast (length edits.now) (option_map pinned pin.now) }
-    requires journal { IsJournal edits.now }
-    ensures { IfOk result (λ proved. proved ≡ verdict edits.now (option_map pinned pin.now) evidence.now) }
+    steps: &mut Steps<L>,
+) -> bool
+    requires { IfSome ready.now (λ r. r.mech ≡ Mech.Plain) }
+    ensures value { result ≡ is_proved ready.now evidence.now }
+    ensures least { steps.old ≤ steps.new }
+    ensures most { steps.new ≤ steps.old + key_cost ready.now }
 {
-    match (pin, evidence) {
-        (Some(pin), Some(evidence)) => is_proved_at(alloc, edits, pin, evidence),
-        _ => Ok(false),
+    match (ready, evidence) {
+        (Some(ready), Some(Evidence::Plain { password })) => {
+            guess(ready, password.bytes(), steps)
+        }
+        _ => false,
     }
 }
 
@@ -104,26 +77,26 @@ pub fn check1(
 }
 
 /// The second half of a check.
-pub fn check2(
-    alloc: Global,
-    edits: &[Edit],
+pub fn check2<L: Ledger>(
+    tables: &Tables,
     contexts: &mut [Context],
     id: CtxId,
     serial: Serial,
-) -> Result<Outcome, NoMemory>
-    requires sound { AreSound edits.now contexts.old }
-    requires journal { IsJournal edits.now }
-    ensures ok { IfOk result (λ outcome. (outcome, logins contexts.new) ≡ check2 edits.now (logins contexts.old) id.0 serial.0) }
-    ensures sound { AreSound edits.now contexts.new }
-    ensures err { OnErr result (contexts.new ≡ contexts.old) }
+    steps: &mut Steps<L>,
+) -> Outcome
+    requires { AreSound tables.now.journal contexts.old }
+    ensures ok { (result, logins contexts.new) ≡ check2 tables.now.journal (logins contexts.old) id.0 serial.0 }
+    ensures sound { AreSound tables.now.journal contexts.new }
+    ensures least { steps.old ≤ steps.new }
+    ensures most { steps.new ≤ steps.old + carried_cost (logins contexts.old) id.0 StateWord.Checking serial.0 (λ l. check_cost tables.now.journal l.pin) }
 {
     let Some(context) = context_carried(contexts, id, StateWord::Checking, serial) else {
-        return Ok(Outcome::Gone);
+        return Outcome::Gone;
     };
-    if !verdict(alloc, edits, &context.pin, &context.evidence)? {
+    if !is_proved(&context.ready, &context.evidence, steps) {
         set_state(contexts, id, StateWord::Failed);
-        return Ok(Outcome::Password);
+        return Outcome::Password;
     }
     set_state(contexts, id, StateWord::Proved);
-    Ok(Outcome::Proved(None))
+    Outcome::Proved(None)
 }

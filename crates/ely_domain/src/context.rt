@@ -1,22 +1,24 @@
 //! The live logins: how one is found, and how it changes.
 
-ghost use Rattle.std.specs.Prelude.{true, false, List, ◌≡◌, ◌<◌, ◌≤◌, length, IfOk, IfErr, OnErr, IsSome, IfSome, IfNone, None, Some, slice_set, slice_get};
-ghost use Rattle.std.specs.Option.{option_map};
+ghost use Rattle.std.specs.Prelude.{true, false, List, ◌≡◌, IfOk, IfErr, IsSome, IfSome, IfNone, None, Some};
+ghost use Rattle.std.specs.Option.{option_map, option_and_then};
 ghost use Rattle.ely_row.specs.declared.edit.Edit.{Edit};
 ghost use Rattle.ely_script.specs.Words.{same_state};
 ghost use Rattle.ely_domain.specs.Machine.{Login, Answered, in_state, carried_in, login_of, with_login, moved, checking};
-ghost use Rattle.ely_domain.specs.Contexts.{login, logins, seen, pinned, prepared_for, IsIn, IsCarried, IsChanged, IsSound, AreSound};
+ghost use Rattle.ely_domain.specs.Contexts.{login, logins, seen, pinned, prepared_for, key_for, has_key, IsOfItsTime, IsIn, IsCarried, IsChanged, IsSound, AreSound};
 ghost use Rattle.ely_domain.specs.Found.{IsFoundAt};
 
 use ely_base::{CtxId, Items, Name, Serial};
-use ely_row::Place;
+use ely_cred::Ready;
+use ely_row::{Place, SharedRow};
 use ely_script::{Claim, Evidence, Outcome, StateWord};
 
-/// The version that a naming pinned, and whom it named.
+/// The version that a naming pinned, whom it named, and the row of that moment.
 #[derive(Drop)]
 pub struct Pin {
     pub version: u64,
     pub place: Place,
+    pub row: SharedRow,
     pub claim: Claim,
 }
 
@@ -35,6 +37,7 @@ pub struct Context {
     pub serial: u64,
     pub state: StateWord,
     pub pin: Option<Pin>,
+    pub ready: Option<Ready>,
     pub evidence: Option<Evidence>,
     pub prepared: Option<Prepared>,
 }
@@ -102,7 +105,7 @@ pub fn context_carried(
 /// Moves the login with this id.
 pub fn set_state(contexts: &mut [Context], id: CtxId, state: StateWord)
     ensures is { IsChanged (logins contexts.old) (logins contexts.new) id.0 (λ l. moved l state) }
-    ensures sound { (edits : List Edit) → AreSound edits contexts.old → same_state state StateWord.Authorized ≡ false → AreSound edits contexts.new }
+    ensures sound { (edits : List Edit) → AreSound edits contexts.old → has_key state ≡ false → same_state state StateWord.Authorized ≡ false → AreSound edits contexts.new }
 {
     if let Some(at) = find(contexts, id) {
         let context = &mut contexts[at];
@@ -113,7 +116,7 @@ pub fn set_state(contexts: &mut [Context], id: CtxId, state: StateWord)
 /// Pins what the login with this id named.
 pub fn set_pin(contexts: &mut [Context], id: CtxId, pin: Pin)
     ensures is { IsChanged (logins contexts.old) (logins contexts.new) id.0 (λ l. record { serial = l.serial; state = StateWord.Loading; pin = Some (pinned pin); evidence = l.evidence }) }
-    ensures sound { (edits : List Edit) → AreSound edits contexts.old → pin.version ≤ length edits → AreSound edits contexts.new }
+    ensures sound { (edits : List Edit) → AreSound edits contexts.old → IsOfItsTime edits pin → AreSound edits contexts.new }
 {
     if let Some(at) = find(contexts, id) {
         let context = &mut contexts[at];
@@ -122,10 +125,22 @@ pub fn set_pin(contexts: &mut [Context], id: CtxId, pin: Pin)
     }
 }
 
+/// Names the login with this id, and keeps its key.
+pub fn set_ready(contexts: &mut [Context], id: CtxId, ready: Option<Ready>)
+    ensures is { IsChanged (logins contexts.old) (logins contexts.new) id.0 (λ l. moved l StateWord.Named) }
+    ensures sound { (edits : List Edit) → AreSound edits contexts.old → ((l : Login) → login_of (logins contexts.old) id.0 ≡ Some l → ready ≡ option_and_then (key_for edits) l.pin) → AreSound edits contexts.new }
+{
+    if let Some(at) = find(contexts, id) {
+        let context = &mut contexts[at];
+        context.state = StateWord::Named;
+        context.ready = ready;
+    }
+}
+
 /// Keeps what the login with this id shows.
 pub fn set_evidence(contexts: &mut [Context], id: CtxId, evidence: Evidence)
     ensures is { IsChanged (logins contexts.old) (logins contexts.new) id.0 (λ l. checking l evidence) }
-    ensures sound { (edits : List Edit) → AreSound edits contexts.old → AreSound edits contexts.new }
+    ensures sound { (edits : List Edit) → AreSound edits contexts.old → ((l : Login) → login_of (logins contexts.old) id.0 ≡ Some l → has_key l.state ≡ true) → AreSound edits contexts.new }
 {
     if let Some(at) = find(contexts, id) {
         let context = &mut contexts[at];

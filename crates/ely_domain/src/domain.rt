@@ -1,10 +1,11 @@
 //! The domain: one step of it is one step of the machine that it stands for.
 
-ghost use Rattle.std.specs.Prelude.{◌≡◌, ◌<◌, ◌≤◌, ◌^◌, ◌-◌, length, IfOk, OnErr, IsOk};
+ghost use Rattle.std.specs.Prelude.{◌≡◌, ◌<◌, ◌≤◌, ◌+◌, ◌^◌, ◌-◌, [], length, IfOk, OnErr, IsOk};
 ghost use Rattle.std.specs.Option.{option_map};
-ghost use Rattle.ely_row.specs.Rows.{fault};
-ghost use Rattle.ely_domain.specs.Machine.{changed, begin, close, login_answer, of_logins, state_of, step};
-ghost use Rattle.ely_domain.specs.Journals.{IsJournal};
+ghost use Rattle.ely_row.specs.Salts.{plain_derivation};
+ghost use Rattle.ely_table.specs.Faults.{fault};
+ghost use Rattle.ely_domain.specs.Machine.{realms, changed, begin, close, login_answer, of_logins, state_of, step};
+ghost use Rattle.ely_domain.specs.Costs.{login_cost, step_cost};
 ghost use Rattle.ely_domain.specs.Contexts.{logins, AreSound};
 ghost use Rattle.ely_script.specs.Words.{cache_word};
 ghost use Rattle.ely_domain.specs.Domains.{IsOfLogin, TakesNoMemory, carrier, serial_at, serial_given};
@@ -14,56 +15,71 @@ use crate::closing::{close, fail};
 use crate::context::{Context, context_of};
 use crate::event::{Answer, Event};
 use crate::granting::{allows, authorize, succeed};
-use crate::naming::{name1, name2};
-use crate::row::fault_of;
-use ely_base::{CtxId, NoMemory, Serial, Version};
-use ely_row::Edit;
+use crate::naming::{main_realm, name1, name2};
+use ely_base::{CtxId, Name, NoMemory, Refused, Serial, Version};
+use ely_hash::Steps;
+use ely_row::{Edit, Params};
 use ely_script::{Outcome, StateWord};
+use ely_table::{RealmClass, Tables};
 use std::alloc::Global;
 use std::marker::Model;
+use std::sync::ledger::Ledger;
 
 /// The most edits of a journal.
 pub const JOURNAL_LIMIT: u32 = 131072;
 
-/// The edits that were accepted, and the logins that are live.
+/// The tables of the realms with their journal, how keys are derived, and the logins that are live.
 #[derive(Drop)]
 pub struct Domain {
-    limit: u32,
-    edits: Vec<Edit>,
+    tables: Tables,
+    params: Params,
     contexts: Vec<Context>,
     opened: u64,
 }
 
 impl Model for Domain {
     ghost use Rattle.ely_domain.specs.Domains.{Seen};
-    ghost use Rattle.std.specs.Prelude.{◌≤◌, length};
-    ghost use Rattle.ely_row.specs.Accepted.{IsAccepted};
+    ghost use Rattle.std.specs.Prelude.{◌≡◌};
+    ghost use Rattle.ely_row.specs.Salts.{plain_derivation};
+    ghost use Rattle.ely_domain.specs.Machine.{realms};
     ghost use Rattle.ely_domain.specs.Contexts.{logins, AreSound};
 
     ghost Value = { Seen };
 
     ghost view = { λ d. record {
-      given = record { limit = d.limit };
-      machine = record { edits = d.edits.items; live = logins d.contexts.items; opened = d.opened };
+      given = record { limit = d.tables.limit };
+      machine = record { edits = d.tables.journal; live = logins d.contexts.items; opened = d.opened };
     } };
 
-    ghost invariant = { λ d. (length d.edits.items ≤ d.limit) × (d.limit ≤ 131072) × AreSound d.edits.items d.contexts.items × IsAccepted d.limit d.edits.items };
+    ghost invariant = { λ d. (d.tables.realms ≡ realms) × (d.params ≡ plain_derivation) × AreSound d.tables.journal d.contexts.items };
+}
+
+/// The tables of the one realm that there is.
+fn main_tables(alloc: Global, journal_limit: u32) -> Result<Tables, NoMemory>
+    requires some { 1 ≤ journal_limit }
+    requires most { journal_limit ≤ 131072 }
+    ensures { IfOk result (λ tables. tables ≡ record { realms = realms; limit = journal_limit; journal = [] }) }
+{
+    let mut realms: Vec<(Name, RealmClass)> = Vec::new(alloc);
+    realms.push((main_realm(alloc)?, RealmClass::Modifiable))?;
+    Tables::new(alloc, realms, journal_limit)
 }
 
 impl Domain {
     ghost use Rattle.ely_domain.specs.Machine.{first_machine};
 
-    /// A domain without edits and logins, whose journal takes `journal_limit` edits, at most 131,072.
-    pub fn new(alloc: Global, journal_limit: u32) -> Domain
-        requires { journal_limit ≤ 131072 }
-        ensures { result ≡ record { given = record { limit = journal_limit }; machine = first_machine } }
+    /// A domain without edits and logins, whose journal takes `journal_limit` edits, from 1 to 131,072.
+    pub fn new(alloc: Global, journal_limit: u32) -> Result<Domain, NoMemory>
+        requires some { 1 ≤ journal_limit }
+        requires most { journal_limit ≤ 131072 }
+        ensures { IfOk result (λ domain. domain ≡ record { given = record { limit = journal_limit }; machine = first_machine }) }
     {
-        Domain {
-            limit: journal_limit,
-            edits: Vec::new(alloc),
+        Ok(Domain {
+            tables: main_tables(alloc, journal_limit)?,
+            params: Params::plain(alloc),
             contexts: Vec::new(alloc),
             opened: 0,
-        }
+        })
     }
 
     /// How many opens were accepted, which is the serial number of the last of them.
@@ -77,7 +93,7 @@ impl Domain {
     pub fn version(&self) -> Version
         ensures { result.0 ≡ length self.now.machine.edits }
     {
-        Version(self.edits.len() as u64)
+        self.tables.version()
     }
 
     /// The state of the login with this id.
@@ -90,17 +106,17 @@ impl Domain {
         }
     }
 
-    #[tactic(auto, using(crate::proofs::Accepted::journal_of))]
+    /// Makes an edit, or refuses it.
     fn change(&mut self, alloc: Global, edit: Edit) -> Result<Outcome, NoMemory>
-        ensures ok { IfOk result (λ outcome. (outcome, self.new.machine) ≡ changed self.old.machine edit (fault self.old.given.limit self.old.machine.edits edit)) }
+        ensures ok { IfOk result (λ outcome. (outcome, self.new.machine) ≡ changed self.old.machine edit (fault realms self.old.given.limit self.old.machine.edits edit)) }
         ensures given { self.new.given ≡ self.old.given }
         ensures err { OnErr result (self.new ≡ self.old) }
     {
-        if let Some(fault) = fault_of(alloc, self.limit, &self.edits, &edit)? {
-            return Ok(Outcome::Refused(fault));
+        match self.tables.apply(alloc, edit) {
+            Ok(version) => Ok(Outcome::Changed(version)),
+            Err(Refused::NoMemory) => Err(NoMemory),
+            Err(Refused::Fault(fault)) => Ok(Outcome::Refused(fault)),
         }
-        self.edits.push(edit)?;
-        Ok(Outcome::Changed(Version(self.edits.len() as u64)))
     }
 
     fn begin(&mut self, id: CtxId) -> Result<Outcome, NoMemory>
@@ -121,6 +137,7 @@ impl Domain {
             serial,
             state: StateWord::Fresh,
             pin: None,
+            ready: None,
             evidence: None,
             prepared: None,
         })?;
@@ -140,37 +157,52 @@ impl Domain {
     }
 
     /// What the domain answers to a step of a login that is there.
-    #[tactic(auto, using(crate::proofs::Accepted::journal_of))]
-    fn login_step(&mut self, alloc: Global, event: Event) -> Result<Outcome, NoMemory>
+    fn login_step<L: Ledger>(
+        &mut self,
+        alloc: Global,
+        event: Event,
+        steps: &mut Steps<L>,
+    ) -> Result<Outcome, NoMemory>
         requires { IsOfLogin event }
         ensures ok { IfOk result (λ outcome. (outcome, self.new.machine) ≡ of_logins self.old.machine (login_answer self.old.machine.edits self.old.machine.live event)) }
         ensures given { self.new.given ≡ self.old.given }
         ensures err { OnErr result (self.new ≡ self.old) }
         ensures sure { TakesNoMemory event → IsOk result }
+        ensures least { steps.old ≤ steps.new }
+        ensures most { steps.new ≤ steps.old + login_cost self.old.machine.edits self.old.machine.live event }
     {
         answer_login(
             alloc,
-            self.edits.as_slice(),
+            &self.params,
+            &self.tables,
             self.contexts.as_mut_slice(),
             event,
+            steps,
         )
     }
 
     /// What the domain answers.
-    #[tactic(auto, unfolding(crate::specs::Machine::step))]
-    fn answer(&mut self, alloc: Global, event: Event) -> Result<Outcome, NoMemory>
+    #[tactic(auto, unfolding(crate::specs::Machine::step, crate::specs::Costs::step_cost))]
+    fn answer<L: Ledger>(
+        &mut self,
+        alloc: Global,
+        event: Event,
+        steps: &mut Steps<L>,
+    ) -> Result<Outcome, NoMemory>
         requires { self.old.machine.opened < 2 ^ 64 - 1 }
         ensures ok { IfOk result (λ outcome. (outcome, self.new.machine) ≡ step self.old.given self.old.machine event) }
         ensures given { self.new.given ≡ self.old.given }
         ensures err { OnErr result (self.new ≡ self.old) }
         ensures sure { TakesNoMemory event → IsOk result }
+        ensures least { steps.old ≤ steps.new }
+        ensures most { steps.new ≤ steps.old + step_cost self.old.machine event }
     {
         match event {
             Event::Bad { bad } => Ok(Outcome::Bad(bad)),
             Event::Change { edit } => self.change(alloc, edit),
             Event::Begin { ctx, .. } => self.begin(ctx),
             Event::Close { ctx } => Ok(self.close_login(ctx)),
-            event => self.login_step(alloc, event),
+            event => self.login_step(alloc, event, steps),
         }
     }
 
@@ -192,8 +224,14 @@ impl Domain {
         }
     }
 
-    /// One step: the answer is the machine's, and the domain stands for the machine after it.
-    pub fn step(&mut self, alloc: Global, event: Event) -> Result<Answer, NoMemory>
+    /// One step: the answer is the machine's, and the domain stands for the machine after it. The counter rises by what the
+    /// step costs at most: a naming derives its key, and a check tries its password; any other step costs nothing.
+    pub fn step<L: Ledger>(
+        &mut self,
+        alloc: Global,
+        event: Event,
+        steps: &mut Steps<L>,
+    ) -> Result<Answer, NoMemory>
         requires { self.old.machine.opened < 2 ^ 64 - 1 }
         ensures answer { IfOk result (λ answer. (answer.outcome, self.new.machine) ≡ step self.old.given self.old.machine event) }
         ensures cache { IfOk result (λ answer. answer.cache ≡ cache_word answer.outcome) }
@@ -201,9 +239,11 @@ impl Domain {
         ensures given { self.new.given ≡ self.old.given }
         ensures err { OnErr result (self.new ≡ self.old) }
         ensures sure { TakesNoMemory event → IsOk result }
+        ensures least { steps.old ≤ steps.new }
+        ensures most { steps.new ≤ steps.old + step_cost self.old.machine event }
     {
         let login = event.carrier();
-        let outcome = self.answer(alloc, event)?;
+        let outcome = self.answer(alloc, event, steps)?;
         let cache = outcome.cache_word();
         let serial = self.serial_given(login, &outcome);
         Ok(Answer {
@@ -215,32 +255,38 @@ impl Domain {
 }
 
 /// What is answered to a step of a login.
-fn answer_login(
+fn answer_login<L: Ledger>(
     alloc: Global,
-    edits: &[Edit],
+    params: &Params,
+    tables: &Tables,
     contexts: &mut [Context],
     event: Event,
+    steps: &mut Steps<L>,
 ) -> Result<Outcome, NoMemory>
     requires login { IsOfLogin event }
-    requires sound { AreSound edits.now contexts.old }
-    requires journal { IsJournal edits.now }
-    ensures ok { IfOk result (λ outcome. (outcome, logins contexts.new) ≡ login_answer edits.now (logins contexts.old) event) }
-    ensures sound { AreSound edits.now contexts.new }
+    requires plain { params.now ≡ plain_derivation }
+    requires sound { AreSound tables.now.journal contexts.old }
+    ensures ok { IfOk result (λ outcome. (outcome, logins contexts.new) ≡ login_answer tables.now.journal (logins contexts.old) event) }
+    ensures sound { AreSound tables.now.journal contexts.new }
     ensures err { OnErr result (contexts.new ≡ contexts.old) }
     ensures sure { TakesNoMemory event → IsOk result }
+    ensures least { steps.old ≤ steps.new }
+    ensures most { steps.new ≤ steps.old + login_cost tables.now.journal (logins contexts.old) event }
 {
     match event {
-        Event::Name1 { ctx, claim } => name1(alloc, edits, contexts, ctx, claim),
-        Event::Name2 { ctx, serial } => Ok(name2(edits, contexts, ctx, serial)),
+        Event::Name1 { ctx, claim } => name1(alloc, tables, contexts, ctx, claim),
+        Event::Name2 { ctx, serial } => {
+            name2(alloc, params, tables, contexts, ctx, serial, steps)
+        }
         Event::Check1 {
             ctx,
             serial,
             evidence,
         } => Ok(check1(contexts, ctx, serial, evidence)),
-        Event::Check2 { ctx, serial } => check2(alloc, edits, contexts, ctx, serial),
-        Event::Authorize { ctx } => authorize(alloc, edits, contexts, ctx),
-        Event::Allows { ctx, wanted } => Ok(allows(edits, contexts, ctx, &wanted)),
-        Event::Succeed { ctx } => Ok(succeed(edits, contexts, ctx)),
+        Event::Check2 { ctx, serial } => Ok(check2(tables, contexts, ctx, serial, steps)),
+        Event::Authorize { ctx } => authorize(alloc, tables, contexts, ctx),
+        Event::Allows { ctx, wanted } => Ok(allows(contexts, ctx, &wanted)),
+        Event::Succeed { ctx } => Ok(succeed(tables, contexts, ctx)),
         Event::Fail { ctx } => Ok(fail(contexts, ctx)),
         Event::Bad { .. } | Event::Change { .. } | Event::Begin { .. } | Event::Close { .. } => {
             unreachable!()

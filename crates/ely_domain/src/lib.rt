@@ -1,6 +1,6 @@
 //! The security domain: a machine over a journal of edits and the logins that are live. Its definitions say what each step
 //! answers, computed anew from the list of edits, which histories of a script are legal, and when a login is ready to
-//! succeed. It stands on `ely_script`, `ely_plain`, `ely_row` and `ely_base`.
+//! succeed. It stands on `ely_table`, `ely_cred` and `ely_script`, and on what those stand on.
 #![tactic(auto)]
 
 mod checking;
@@ -12,7 +12,6 @@ mod granting;
 mod laws;
 mod line;
 mod naming;
-mod row;
 
 pub use domain::{Domain, JOURNAL_LIMIT};
 pub use event::{Answer, Event};

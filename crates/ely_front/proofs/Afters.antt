@@ -10,10 +10,12 @@ use Rattle.ely_script.specs.Reading.{Line}
 use Rattle.ely_script.specs.Text.{line_text, text_from, numbered}
 use Rattle.ely_domain.specs.Machine.{Machine}
 use Rattle.ely_domain.specs.Lines.{Taken, actor_of, words_of, ran, entry_at}
-use Rattle.ely_domain.specs.Replays.{made_by, entry_of, lines_of, replayed_after}
+use Rattle.ely_domain.specs.Costs.{cost_from}
+use Rattle.ely_domain.specs.Replays.{made_by, entry_of, lines_of, replayed_after, steps_of}
+use Rattle.ely_domain.proofs.Costing.{cost_line}
 use Rattle.ely_domain.proofs.Whole.{lines_push}
 use Rattle.ely_front.specs.declared.replay.Replay.{Replay}
-use Rattle.ely_front.specs.Scripts.{shipped, text_of}
+use Rattle.ely_front.specs.Scripts.{shipped, text_of, price_of}
 use Rattle.ely_front.specs.After.{IsAfter, count_of}
 use Rattle.ely_front.proofs.Lines.{run_short, run_opens, four_words}
 
@@ -44,7 +46,7 @@ few_opened m m' line is =
     omega arith
 
 -- A line was run on the machine of a replay, its steps were printed, and it was counted.
-pub record IsAnswered (old new : Replay) (line : Line) (n : ℕ) (entries : List Entry) (said : List ℕ) : Type 0 where
+pub record IsAnswered (old new : Replay) (line : Line) (n : ℕ) (entries : List Entry) (said : List ℕ) (before now : ℕ) : Type 0 where
   pub entries_are : entries ≡ map (entry_at (actor_of line) 0) (ran old.domain.given old.domain.machine line).0
   pub machine_is : new.domain.machine ≡ (ran old.domain.given old.domain.machine line).1
   pub given_is : new.domain.given ≡ old.domain.given
@@ -53,8 +55,9 @@ pub record IsAnswered (old new : Replay) (line : Line) (n : ℕ) (entries : List
   pub others : (a : ℕ) → (a ≡ actor_of line → ⊥) → get nat_cmp new.counts a ≡ get nat_cmp old.counts a
   pub number_is : new.number ≡ old.number + length entries
   pub said_is : said ≡ text_from old.number (map (numbered n) entries)
+  pub paid : now ≤ before + cost_from old.domain.given old.domain.machine (ran old.domain.given old.domain.machine line).0
 
-module _ (old new : Replay) (line : Line) (n : ℕ) (entries : List Entry) (said : List ℕ) (answered : IsAnswered old new line n entries said) (lines : List Line) (after : IsAfter old lines) where
+module _ (old new : Replay) (line : Line) (n : ℕ) (entries : List Entry) (said : List ℕ) (before now : ℕ) (answered : IsAnswered old new line n entries said before now) (lines : List Line) (after : IsAfter old lines) where
   entries_here : entries ≡ map (entry_at (actor_of line) 0) (ran shipped old.domain.machine line).0
   entries_here = rw after.given_is at answered.entries_are
 
@@ -82,6 +85,23 @@ module _ (old new : Replay) (line : Line) (n : ℕ) (entries : List Entry) (said
   pub said_so : text_of (lines ++ line ∷ []) ≡ text_of lines ++ said
   said_so = whole [] ∙ append-nil (text_of lines ++ said)
 
+  -- what the script costs, with this line before the rest of it
+  price_whole : (rest : List Line) → price_of (lines ++ line ∷ rest) ≡ price_of lines + (cost_from shipped old.domain.machine (ran shipped old.domain.machine line).0 + cost_from shipped new.domain.machine (steps_of (replayed_after shipped new.domain.machine (lines ++ line ∷ []) rest)))
+  price_whole rest =
+      let m = old.domain.machine in
+      let r = ran shipped m line in
+      let both = cost_line shipped m line (actor_of line) (lines_of (actor_of line) lines + 1) (words_of line) (replayed_after shipped r.1 (lines ++ line ∷ []) rest) in
+      after.costs (line ∷ rest) ∙ ap (λ k. price_of lines + k) (both ∙ ap (λ (x : Machine). cost_from shipped m r.0 + cost_from shipped x (steps_of (replayed_after shipped x (lines ++ line ∷ []) rest))) (sym machine_here))
+
+  price_line : price_of (lines ++ line ∷ []) ≡ price_of lines + cost_from shipped old.domain.machine (ran shipped old.domain.machine line).0
+  price_line = price_whole [] ∙ ap (λ k. price_of lines + k) (add-zero _)
+
+  -- the counter rose by the price of this line at most
+  pub price_so : now + price_of lines ≤ before + price_of (lines ++ line ∷ [])
+  price_so =
+      let paid : now ≤ before + cost_from shipped old.domain.machine (ran shipped old.domain.machine line).0 = rw after.given_is at answered.paid in
+      omega (arith, paid, price_line)
+
   counted_on : (a : ℕ) → count_of new a ≡ lines_of a (lines ++ line ∷ [])
   counted_on a = by_test (eqb (actor_of line) a) refl ∙ sym (lines_push lines line a)
     where
@@ -101,6 +121,9 @@ module _ (old new : Replay) (line : Line) (n : ℕ) (entries : List Entry) (said
       record {
         given_is = answered.given_is ∙ after.given_is;
         going = λ rest. ap text_of (append_assoc lines (line ∷ []) rest) ∙ (whole rest ∙ ap (λ t. t ++ text_from new.number (map entry_of (replayed_after shipped new.domain.machine (lines ++ line ∷ []) rest))) (sym said_so));
+        costs = λ rest.
+            let later = price_whole rest in
+            ap price_of (append_assoc lines (line ∷ []) rest) ∙ omega (arith, later, price_line);
         counted = counted_on;
         few = omega (arith, few, more, after.few, answered.number_is);
         opened = omega (arith, opens, more, after.opened);

@@ -45,10 +45,10 @@ all_given bytes gave left took at_end =
     let none : f.0 ≡ [] = subst IsAtEnd f.1 at_end in
     sym (f.2 ∙ (ap (λ xs. gave ++ xs) none ∙ append-nil gave))
 
-module _ (bytes gave : List ℕ) (left old new : Option (List ℕ)) (source_before source_now sink_before sink_now status : ℕ) (took : Consumes (Some bytes) left gave) (lines : List (List ℕ)) (few : length bytes < most) (configured : lines_of bytes ≡ codes "{}" ∷ lines)
+module _ (bytes gave : List ℕ) (left old new : Option (List ℕ)) (before now source_before source_now sink_before sink_now status : ℕ) (took : Consumes (Some bytes) left gave) (lines : List (List ℕ)) (few : length bytes < most) (configured : lines_of bytes ≡ codes "{}" ∷ lines)
     (read_fault : status ≡ 4 → Rose source_before source_now) (write_fault : status ≡ 5 → Rose sink_before sink_now) (source : Rose source_before source_now → ⊥) (sink : Rose sink_before sink_now → ⊥) where
-  by_ending : (e : Ending) → status ≡ status_of e → Ends gave left old new e → ((status ≡ 0) × IsDone bytes left old new) ⊎ (status ≡ 1)
-  by_ending ending.Done is ends = inl (is, subst (λ xs. IsDone xs left old new) (all_given bytes gave left took ends.at_end) ends)
+  by_ending : (e : Ending) → status ≡ status_of e → Ends gave left old new before now e → ((status ≡ 0) × IsDone bytes left old new before now) ⊎ (status ≡ 1)
+  by_ending ending.Done is ends = inl (is, subst (λ xs. IsDone xs left old new before now) (all_given bytes gave left took ends.at_end) ends)
   by_ending ending.NoMemory is ends = inr is
   by_ending ending.Words is ends = absurd ends
   by_ending ending.Read is ends = absurd (source (read_fault is))
@@ -65,7 +65,7 @@ module _ (bytes gave : List ℕ) (left old new : Option (List ℕ)) (source_befo
       let long : config_most < length (codes "{}") = subst (λ l. config_most < length l) first ends.1.2 in
       absurd (omega (arith, long))
 
-pub complete : (left_old left old new : Option (List ℕ)) (source_before source_now sink_before sink_now status : ℕ) (e : Ending) → status ≡ status_of e → (status ≡ 4 → Rose source_before source_now) → (status ≡ 5 → Rose sink_before sink_now)
-    → ((gave : List ℕ) × Consumes left_old left gave × Ends gave left old new e) → IsComplete left_old left old new source_before source_now sink_before sink_now status
-complete left_old left old new source_before source_now sink_before sink_now status e is read_fault write_fault ends bytes within source sink =
-    by_ending bytes ends.0 left old new source_before source_now sink_before sink_now status (subst (λ l. Consumes l left ends.0) within.told ends.1) within.lines within.few within.configured read_fault write_fault source sink e is ends.2
+pub complete : (left_old left old new : Option (List ℕ)) (before now source_before source_now sink_before sink_now status : ℕ) (e : Ending) → status ≡ status_of e → (status ≡ 4 → Rose source_before source_now) → (status ≡ 5 → Rose sink_before sink_now)
+    → ((gave : List ℕ) × Consumes left_old left gave × Ends gave left old new before now e) → IsComplete left_old left old new before now source_before source_now sink_before sink_now status
+complete left_old left old new before now source_before source_now sink_before sink_now status e is read_fault write_fault ends bytes within source sink =
+    by_ending bytes ends.0 left old new before now source_before source_now sink_before sink_now status (subst (λ l. Consumes l left ends.0) within.told ends.1) within.lines within.few within.configured read_fault write_fault source sink e is ends.2

@@ -12,12 +12,13 @@ use Rattle.ely_io.specs.Causes.{AppendsFront}
 use Rattle.ely_io.specs.Lines.{HasNoLf, lines_of, whole_lines}
 use Rattle.ely_io.specs.Reading.{Reader, most, IsGivenAt, GivesLine, Next}
 use Rattle.ely_io.proofs.LineLaws.{lines_of-line, lines_of-last, whole_lines-line, whole_lines-none}
+use Rattle.ely_script.specs.Reading.{Line}
 use Rattle.ely_domain.proofs.FileOrder.{replayed_is_history}
 use Rattle.ely_front.specs.declared.ending.Ending.{Ending}
 use Rattle.ely_front.specs.declared.ending.Ending.TheVariants as ending
 use Rattle.ely_front.specs.declared.script.First.{First}
 use Rattle.ely_front.specs.declared.script.First.TheVariants.{Config, Other, Long}
-use Rattle.ely_front.specs.Scripts.{shipped, script_of, history_of, is_config}
+use Rattle.ely_front.specs.Scripts.{shipped, script_of, history_of, cost_of, price_of, is_config}
 use Rattle.ely_front.specs.Endings.{Lasts, IsCut, Stops, Ends, Says, IsSaid, IsCutShort, IsFirstLine, IsConfigured, said_of, bytes_limit_text, config_text, config_limit_text, config_most}
 use Rattle.ely_front.specs.FirstLines.{judged, Refuses}
 
@@ -26,8 +27,8 @@ abbrev pub fresh : Reader
 fresh = record { held = []; taken = 0; given = 0; mark = None; ended = false }
 
 -- what a source gave, and how it ended
-abbrev pub Ended : Option (List ℕ) → Option (List ℕ) → Option (List ℕ) → Option (List ℕ) → Ending → Type 0
-Ended left_old left old new e = (gave : List ℕ) × Consumes left_old left gave × Ends gave left old new e
+abbrev pub Ended : Option (List ℕ) → Option (List ℕ) → Option (List ℕ) → Option (List ℕ) → ℕ → ℕ → Ending → Type 0
+Ended left_old left old new paid_old paid e = (gave : List ℕ) × Consumes left_old left gave × Ends gave left old new paid_old paid e
 
 -- no line was read whole
 module _ (bytes : List ℕ) (left old new : Option (List ℕ)) (none : HasNoLf bytes) where
@@ -47,16 +48,16 @@ module _ (bytes : List ℕ) (left old new : Option (List ℕ)) (none : HasNoLf b
   spent_cut all wrote = inr (ending.BytesLimit, said_of (whole_lines bytes) ++ bytes_limit_text, spent_says all, rw no_lines wrote)
 
 -- the reader refused the first line
-stopped_at : (left_old left old new : Option (List ℕ)) (r : Reader) (before now : ℕ) (refused : Refused LineFault) (e : Ending) → Next config_most fresh r left_old left before now (Err refused) → Stops old new refused e → Ended left_old left old new e
-stopped_at left_old left old new r before now OutOfMemory ending.NoMemory n same = (n.0, n.1, inl same)
-stopped_at left_old left old new r before now (Fault ReadFault) ending.Read n same = (n.0, n.1, nothing_said n.0 left old new n.3.0 same)
-stopped_at left_old left old new r before now (Fault SpentFault) ending.BytesLimit n wrote = (n.0, n.1, spent_said n.0 left old new n.3.0 (omega (arith, n.2, n.3.1)) wrote)
-stopped_at left_old left old new r before now (Fault SpentFault) ending.Write n wrote = (n.0, n.1, spent_cut n.0 left old new n.3.0 (omega (arith, n.2, n.3.1)) wrote)
-stopped_at left_old left old new r before now _ _ n wrote = absurd wrote
+stopped_at : (left_old left old new : Option (List ℕ)) (r : Reader) (before now paid_old paid : ℕ) (refused : Refused LineFault) (e : Ending) → Next config_most fresh r left_old left before now (Err refused) → Stops old new refused e → Ended left_old left old new paid_old paid e
+stopped_at left_old left old new r before now paid_old paid OutOfMemory ending.NoMemory n same = (n.0, n.1, inl same)
+stopped_at left_old left old new r before now paid_old paid (Fault ReadFault) ending.Read n same = (n.0, n.1, nothing_said n.0 left old new n.3.0 same)
+stopped_at left_old left old new r before now paid_old paid (Fault SpentFault) ending.BytesLimit n wrote = (n.0, n.1, spent_said n.0 left old new n.3.0 (omega (arith, n.2, n.3.1)) wrote)
+stopped_at left_old left old new r before now paid_old paid (Fault SpentFault) ending.Write n wrote = (n.0, n.1, spent_cut n.0 left old new n.3.0 (omega (arith, n.2, n.3.1)) wrote)
+stopped_at left_old left old new r before now paid_old paid _ _ n wrote = absurd wrote
 
-pub stopped_first : (left_old left old new : Option (List ℕ)) (start r : Reader) (before now : ℕ) (refused : Refused LineFault) (e : Ending) → start ≡ fresh → Next config_most start r left_old left before now (Err refused) → Stops old new refused e → Ended left_old left old new e
-stopped_first left_old left old new start r before now refused e is n stops =
-    stopped_at left_old left old new r before now refused e (subst (λ (s : Reader). Next config_most s r left_old left before now (Err refused)) is n) stops
+pub stopped_first : (left_old left old new : Option (List ℕ)) (start r : Reader) (before now paid_old paid : ℕ) (refused : Refused LineFault) (e : Ending) → start ≡ fresh → Next config_most start r left_old left before now (Err refused) → Stops old new refused e → Ended left_old left old new paid_old paid e
+stopped_first left_old left old new start r before now paid_old paid refused e is n stops =
+    stopped_at left_old left old new r before now paid_old paid refused e (subst (λ (s : Reader). Next config_most s r left_old left before now (Err refused)) is n) stops
 
 -- a line that was given is the first line
 first_given : (b : Bool) (bytes line : List ℕ) (r : Reader) (left : Option (List ℕ)) → HasNoLf line → IsGivenAt b bytes line r left → IsFirstLine bytes left line
@@ -85,13 +86,13 @@ config_long : Config ≡ Long → ⊥
 config_long h = cc
 
 -- what was refused is said
-refused_with : (gave said : List ℕ) (left old new : Option (List ℕ)) (e result : Ending) → (e ≡ ending.Config) ⊎ (e ≡ ending.ConfigLimit) → Says gave left e said → Refuses old new said e result → Ends gave left old new result
-refused_with gave said left old new e result which says refuses = ⊎_elim
+refused_with : (gave said : List ℕ) (left old new : Option (List ℕ)) (paid_old paid : ℕ) (e result : Ending) → (e ≡ ending.Config) ⊎ (e ≡ ending.ConfigLimit) → Says gave left e said → Refuses old new said e result → Ends gave left old new paid_old paid result
+refused_with gave said left old new paid_old paid e result which says refuses = ⊎_elim
     (λ (h : (result ≡ e) × Appends old new said). ⊎_elim
-    (λ (k : e ≡ ending.Config). subst (Ends gave left old new) (sym (h.0 ∙ k)) (said, subst (λ x. Says gave left x said) k says, h.1))
-    (λ (k : e ≡ ending.ConfigLimit). subst (Ends gave left old new) (sym (h.0 ∙ k)) (said, subst (λ x. Says gave left x said) k says, h.1))
+    (λ (k : e ≡ ending.Config). subst (Ends gave left old new paid_old paid) (sym (h.0 ∙ k)) (said, subst (λ x. Says gave left x said) k says, h.1))
+    (λ (k : e ≡ ending.ConfigLimit). subst (Ends gave left old new paid_old paid) (sym (h.0 ∙ k)) (said, subst (λ x. Says gave left x said) k says, h.1))
     which)
-    (λ (h : (result ≡ ending.Write) × AppendsFront old new said). subst (Ends gave left old new) (sym h.0) (inr (e, said, says, h.1)))
+    (λ (h : (result ≡ ending.Write) × AppendsFront old new said). subst (Ends gave left old new paid_old paid) (sym h.0) (inr (e, said, says, h.1)))
     refuses
 
 -- another line than the configuration
@@ -100,10 +101,10 @@ other_by bytes left old new r before now End h is = ([], record { no_lf = tt; gi
 other_by bytes left old new r before now (Text line) h is = (line, first_given r.ended bytes line r left h.0 h.2, h.1, not_chosen (is_config line) Config Other Other config_other is, refl)
 other_by bytes left old new r before now TooLong h is = absurd (cc)
 
-pub refused_other : (left_old left old new : Option (List ℕ)) (start r : Reader) (before now : ℕ) (line : Given) (first : First) (result : Ending) → start ≡ fresh → Next config_most start r left_old left before now (Ok line) → first ≡ judged line → first ≡ Other → Refuses old new config_text ending.Config result → Ended left_old left old new result
-refused_other left_old left old new start r before now line first result is n judging other refuses =
+pub refused_other : (left_old left old new : Option (List ℕ)) (start r : Reader) (before now paid_old paid : ℕ) (line : Given) (first : First) (result : Ending) → start ≡ fresh → Next config_most start r left_old left before now (Ok line) → first ≡ judged line → first ≡ Other → Refuses old new config_text ending.Config result → Ended left_old left old new paid_old paid result
+refused_other left_old left old new start r before now paid_old paid line first result is n judging other refuses =
     let m : Next config_most fresh r left_old left before now (Ok line) = subst (λ (s : Reader). Next config_most s r left_old left before now (Ok line)) is n in
-    (m.0, m.1, refused_with m.0 config_text left old new ending.Config result (inl refl) (other_by m.0 left old new r before now line m.3 (sym judging ∙ other)) refuses)
+    (m.0, m.1, refused_with m.0 config_text left old new paid_old paid ending.Config result (inl refl) (other_by m.0 left old new r before now line m.3 (sym judging ∙ other)) refuses)
 
 -- a line that is too long
 long_by : (bytes : List ℕ) (left old new : Option (List ℕ)) (r : Reader) (before now : ℕ) (line : Given) → GivesLine config_most fresh r bytes left before now (Ok line) → judged line ≡ Long → Says bytes left ending.ConfigLimit config_limit_text
@@ -111,10 +112,10 @@ long_by bytes left old new r before now End h is = absurd (cc)
 long_by bytes left old new r before now (Text line) h is = absurd (true≢false (sym (chosen (is_config line) Config Other Long other_long is) ∙ not_chosen (is_config line) Config Other Long config_long is))
 long_by bytes left old new r before now TooLong h is = (h.0, first_given r.ended bytes h.0 r left h.1 h.3, h.2, refl)
 
-pub refused_long : (left_old left old new : Option (List ℕ)) (start r : Reader) (before now : ℕ) (line : Given) (first : First) (result : Ending) → start ≡ fresh → Next config_most start r left_old left before now (Ok line) → first ≡ judged line → first ≡ Long → Refuses old new config_limit_text ending.ConfigLimit result → Ended left_old left old new result
-refused_long left_old left old new start r before now line first result is n judging long refuses =
+pub refused_long : (left_old left old new : Option (List ℕ)) (start r : Reader) (before now paid_old paid : ℕ) (line : Given) (first : First) (result : Ending) → start ≡ fresh → Next config_most start r left_old left before now (Ok line) → first ≡ judged line → first ≡ Long → Refuses old new config_limit_text ending.ConfigLimit result → Ended left_old left old new paid_old paid result
+refused_long left_old left old new start r before now paid_old paid line first result is n judging long refuses =
     let m : Next config_most fresh r left_old left before now (Ok line) = subst (λ (s : Reader). Next config_most s r left_old left before now (Ok line)) is n in
-    (m.0, m.1, refused_with m.0 config_limit_text left old new ending.ConfigLimit result (inr refl) (long_by m.0 left old new r before now line m.3 (sym judging ∙ long)) refuses)
+    (m.0, m.1, refused_with m.0 config_limit_text left old new paid_old paid ending.ConfigLimit result (inr refl) (long_by m.0 left old new r before now line m.3 (sym judging ∙ long)) refuses)
 
 -- The first line is the configuration.
 pub record IsConfig (bytes : List ℕ) (r : Reader) (left : Option (List ℕ)) : Type 0 where
@@ -140,8 +141,8 @@ at : (b : Bool) (bytes line : List ℕ) (r : Reader) (left : Option (List ℕ)) 
 at b bytes line r left e h = subst (λ b'. IsGivenAt b' bytes line r left) e h
 
 -- there is nothing behind the configuration
-pub nothing_behind : (left_old left held : Option (List ℕ)) (start r : Reader) (before now : ℕ) (line : Given) (first : First) → start ≡ fresh → Next config_most start r left_old left before now (Ok line) → first ≡ judged line → first ≡ Config → r.ended ≡ true → Ended left_old left held held ending.Done
-nothing_behind left_old left held start r before now line first is n judging config ended =
+pub nothing_behind : (left_old left held : Option (List ℕ)) (start r : Reader) (before now paid : ℕ) (line : Given) (first : First) → start ≡ fresh → Next config_most start r left_old left before now (Ok line) → first ≡ judged line → first ≡ Config → r.ended ≡ true → Ended left_old left held held paid paid ending.Done
+nothing_behind left_old left held start r before now paid line first is n judging config ended =
     let c = config_first left_old left start r before now line first is n judging config in
     let g = at true n.0 c.line r left ended c.given in (
       n.0,
@@ -155,11 +156,17 @@ nothing_behind left_old left held start r before now line first is n judging con
         is_configured = c.is;
         is_history = replayed_is_history shipped [];
         is_written = Appends-nil held;
+        is_paid = omega arith;
       },
     )
 
+-- the price of lines is the cost of their history
+price_is : (lines : List Line) → price_of lines ≡ cost_of (history_of lines)
+unfolding price_of
+price_is lines = refl
+
 -- the lines behind the configuration
-module _ (bytes gave line held : List ℕ) (left old new : Option (List ℕ)) (is : is_config line ≡ true) (front : bytes ≡ line ++ 10 ∷ held) (no_lf : HasNoLf line) where
+module _ (bytes gave line held : List ℕ) (left old new : Option (List ℕ)) (paid_old paid : ℕ) (is : is_config line ≡ true) (front : bytes ≡ line ++ 10 ∷ held) (no_lf : HasNoLf line) where
   together : bytes ++ gave ≡ line ++ 10 ∷ (held ++ gave)
   together = ap (λ xs. xs ++ gave) front ∙ append_assoc line (10 ∷ held) gave
 
@@ -183,7 +190,7 @@ module _ (bytes gave line held : List ℕ) (left old new : Option (List ℕ)) (i
       (λ h. inr (ending.Done, said_of (lines_of (bytes ++ gave)), lines_say, rw all_lines h))
       (λ h. inr (ending.BytesLimit, said_of (whole_lines (bytes ++ gave)) ++ bytes_limit_text, spent_say (sym all ∙ h.0), rw all_whole h.1))
 
-  behind : (total : ℕ) (e : Ending) → total ≡ length (bytes ++ gave) → Lasts (held ++ gave) total left old new e → Ends (bytes ++ gave) left old new e
+  behind : (total : ℕ) (e : Ending) → total ≡ length (bytes ++ gave) → Lasts (held ++ gave) total left old new paid_old paid e → Ends (bytes ++ gave) left old new paid_old paid e
   behind total ending.Done all h = record {
     first = line;
     lines = lines_of (held ++ gave);
@@ -193,6 +200,7 @@ module _ (bytes gave line held : List ℕ) (left old new : Option (List ℕ)) (i
     is_configured = is;
     is_history = replayed_is_history shipped (script_of (lines_of (held ++ gave)));
     is_written = h.1;
+    is_paid = omega (arith, h.2, price_is (script_of (lines_of (held ++ gave))));
   }
   behind total ending.Read all h = (said_of (whole_lines (bytes ++ gave)), whole_say, rw all_whole h)
   behind total ending.BytesLimit all h = (said_of (whole_lines (bytes ++ gave)) ++ bytes_limit_text, spent_say (sym all ∙ h.0), rw all_whole h.1)
@@ -202,13 +210,13 @@ module _ (bytes gave line held : List ℕ) (left old new : Option (List ℕ)) (i
   behind total ending.Config all h = absurd h
   behind total ending.ConfigLimit all h = absurd h
 
-pub went_on : (left_old mid left old new : Option (List ℕ)) (start r : Reader) (before now : ℕ) (line : Given) (first : First) (e : Ending) → start ≡ fresh → Next config_most start r left_old mid before now (Ok line) → first ≡ judged line → first ≡ Config → r.ended ≡ false
-    → ((gave : List ℕ) × Consumes mid left gave × Lasts (r.held ++ gave) (r.taken + length gave) left old new e) → Ended left_old left old new e
-went_on left_old mid left old new start r before now line first e is n judging config open_still went =
+pub went_on : (left_old mid left old new : Option (List ℕ)) (start r : Reader) (before now paid_old paid : ℕ) (line : Given) (first : First) (e : Ending) → start ≡ fresh → Next config_most start r left_old mid before now (Ok line) → first ≡ judged line → first ≡ Config → r.ended ≡ false
+    → ((gave : List ℕ) × Consumes mid left gave × Lasts (r.held ++ gave) (r.taken + length gave) left old new paid_old paid e) → Ended left_old left old new paid_old paid e
+went_on left_old mid left old new start r before now paid_old paid line first e is n judging config open_still went =
     let c = config_first left_old mid start r before now line first is n judging config in
     let g = at false n.0 c.line r mid open_still c.given in
     let taken : start.taken ≡ 0 = ap (λ (s : Reader). s.taken) is in (
       n.0 ++ went.0,
       Consumes-trans left_old mid left n.0 went.0 n.1 went.1,
-      behind n.0 went.0 c.line r.held left old new c.is g c.no_lf (r.taken + length went.0) e (omega (arith, n.2, taken, length-append n.0 went.0)) went.2,
+      behind n.0 went.0 c.line r.held left old new paid_old paid c.is g c.no_lf (r.taken + length went.0) e (omega (arith, n.2, taken, length-append n.0 went.0)) went.2,
     )

@@ -25,13 +25,13 @@ use Rattle.ely_domain.specs.Lines.{actor_of}
 use Rattle.ely_front.specs.declared.replay.Replay.{Replay}
 use Rattle.ely_front.specs.declared.ending.Ending.{Ending}
 use Rattle.ely_front.specs.declared.ending.Ending.TheVariants as ending
-use Rattle.ely_front.specs.Scripts.{text_of, script_of}
+use Rattle.ely_front.specs.Scripts.{text_of, price_of, script_of}
 use Rattle.ely_front.specs.After.{IsAfter, HasRoom}
 use Rattle.ely_front.specs.Heard.{heard}
 use Rattle.ely_front.specs.Endings.{Lasts, Stops, bytes_limit_text}
 
--- These lines were answered, and the bytes so far are they and what is held.
-pub record Said (start : List ℕ) (base : ℕ) (left_old left held_old held : Option (List ℕ)) (reader : Reader) (replay : Replay) : Type 0 where
+-- These lines were answered, the bytes so far are they and what is held, and the counter rose by their price at most.
+pub record Said (start : List ℕ) (base : ℕ) (left_old left held_old held : Option (List ℕ)) (reader : Reader) (replay : Replay) (paid_old paid : ℕ) : Type 0 where
   pub gave : List ℕ
   pub said : List (List ℕ)
   pub took : Consumes left_old left gave
@@ -41,6 +41,7 @@ pub record Said (start : List ℕ) (base : ℕ) (left_old left held_old held : O
   pub wrote : Appends held_old held (text_of (script_of said))
   pub after : IsAfter replay (script_of said)
   pub short : length said ≤ reader.given
+  pub paid : paid ≤ paid_old + price_of (script_of said)
 
 -- few lines leave room for one more
 pub has_room : (r : Replay) (lines : List Line) → IsAfter r lines → length lines ≤ 2 ^ 40 → HasRoom r
@@ -54,7 +55,7 @@ has_room r lines after short = record {
 goes_further : (r : Replay) (lines rest : List Line) → IsAfter r lines → (more : List ℕ) × (text_of (lines ++ rest) ≡ text_of lines ++ more)
 goes_further r lines rest after = (_, after.going rest)
 
-module _ (start : List ℕ) (base : ℕ) (left_old mid held_old held_mid : Option (List ℕ)) (old : Reader) (replay : Replay) (s : Said start base left_old mid held_old held_mid old replay) where
+module _ (start : List ℕ) (base : ℕ) (left_old mid held_old held_mid : Option (List ℕ)) (old : Reader) (replay : Replay) (paid_old paid_mid : ℕ) (s : Said start base left_old mid held_old held_mid old replay paid_old paid_mid) where
   -- the lines of all that was given, with more behind it
   regroup : (bs more : List ℕ) → (start ++ (s.gave ++ bs)) ++ more ≡ (start ++ s.gave) ++ (bs ++ more)
   regroup bs more = ap (λ xs. xs ++ more) (sym (append_assoc start s.gave bs)) ∙ append_assoc (start ++ s.gave) bs more
@@ -126,12 +127,13 @@ pub unmarked : (limit : ℕ) (old new : Reader) (mid left : Option (List ℕ)) (
 unmarked limit old new mid left before now line n = unmarked_by limit old new n.0 left before now line n.3
 
 -- A line was given and answered with this text.
-pub record Answered (replay replay' : Replay) (line : Given) (said : List (List ℕ)) (text : List ℕ) : Type 0 where
+pub record Answered (replay replay' : Replay) (line : Given) (said : List (List ℕ)) (text : List ℕ) (paid_mid paid : ℕ) : Type 0 where
   pub text_is : text_of (script_of said ++ heard line) ≡ text_of (script_of said) ++ text
   pub after : IsAfter replay' (script_of said ++ heard line)
+  pub price : paid + price_of (script_of said) ≤ paid_mid + price_of (script_of said ++ heard line)
 
-module _ (start : List ℕ) (base : ℕ) (left_old mid left held_old held_mid : Option (List ℕ)) (old new : Reader) (before now : ℕ) (replay replay' : Replay) (line : Given) (text : List ℕ)
-    (s : Said start base left_old mid held_old held_mid old replay) (n : Next most_bytes old new mid left before now (Ok line)) (a : Answered replay replay' line s.said text) where
+module _ (start : List ℕ) (base : ℕ) (left_old mid left held_old held_mid : Option (List ℕ)) (old new : Reader) (before now : ℕ) (replay replay' : Replay) (line : Given) (text : List ℕ) (paid_old paid_mid paid : ℕ)
+    (s : Said start base left_old mid held_old held_mid old replay paid_old paid_mid) (n : Next most_bytes old new mid left before now (Ok line)) (a : Answered replay replay' line s.said text paid_mid paid) where
   -- the text of all that was said, and of this line
   said_more : (h : Heard old new n.0 left (heard line)) → text_of (script_of (s.said ++ h.line ∷ [])) ≡ text_of (script_of s.said) ++ text
   said_more h = ap text_of (script_push s.said h.line ∙ ap (λ ls. script_of s.said ++ ls) (sym h.is)) ∙ a.text_is
@@ -139,8 +141,11 @@ module _ (start : List ℕ) (base : ℕ) (left_old mid left held_old held_mid : 
   after_more : (h : Heard old new n.0 left (heard line)) → IsAfter replay' (script_of (s.said ++ h.line ∷ []))
   after_more h = subst (IsAfter replay') (ap (λ ls. script_of s.said ++ ls) h.is ∙ sym (script_push s.said h.line)) a.after
 
+  price_more : (h : Heard old new n.0 left (heard line)) → price_of (script_of (s.said ++ h.line ∷ [])) ≡ price_of (script_of s.said ++ heard line)
+  price_more h = ap price_of (script_push s.said h.line ∙ ap (λ ls. script_of s.said ++ ls) (sym h.is))
+
   -- the loop goes on
-  pub goes_on : (held : Option (List ℕ)) → new.ended ≡ false → Counts old → Counts new → old.mark ≡ None → Appends held_mid held text → Said start base left_old left held_old held new replay'
+  pub goes_on : (held : Option (List ℕ)) → new.ended ≡ false → Counts old → Counts new → old.mark ≡ None → Appends held_mid held text → Said start base left_old left held_old held new replay' paid_old paid
   goes_on held open_still co cn mo wrote = ⊎_elim
       (λ (h : Heard old new n.0 left (heard line)).
       let e : old.held ++ n.0 ≡ h.line ++ 10 ∷ new.held = at false (old.held ++ n.0) h.line new left open_still h.given in
@@ -150,12 +155,12 @@ module _ (start : List ℕ) (base : ℕ) (left_old mid left held_old held_mid : 
         said = s.said ++ h.line ∷ [];
         took = Consumes-trans left_old mid left s.gave n.0 s.took n.1;
         count = omega (arith, n.2, s.count, length-append s.gave n.0);
-        lines = λ more. all_lines start base left_old mid held_old held_mid old replay s n.0 more
+        lines = λ more. all_lines start base left_old mid held_old held_mid old replay paid_old paid_mid s n.0 more
             ∙ (ap (λ xs. s.said ++ lines_of (xs ++ more)) e
             ∙ (ap (λ xs. s.said ++ lines_of xs) (append_assoc h.line (10 ∷ new.held) more)
             ∙ (ap (λ xs. s.said ++ xs) (lines_of-line h.line (new.held ++ more) h.no_lf)
             ∙ one_more s.said h.line (lines_of (new.held ++ more)))));
-        whole = λ more. all_whole start base left_old mid held_old held_mid old replay s n.0 more
+        whole = λ more. all_whole start base left_old mid held_old held_mid old replay paid_old paid_mid s n.0 more
             ∙ (ap (λ xs. s.said ++ whole_lines (xs ++ more)) e
             ∙ (ap (λ xs. s.said ++ whole_lines xs) (append_assoc h.line (10 ∷ new.held) more)
             ∙ (ap (λ xs. s.said ++ xs) (whole_lines-line h.line (new.held ++ more) h.no_lf)
@@ -163,32 +168,36 @@ module _ (start : List ℕ) (base : ℕ) (left_old mid left held_old held_mid : 
         wrote = subst (Appends held_old held) (sym (said_more h)) (Appends-trans held_old held_mid held (text_of (script_of s.said)) text s.wrote wrote);
         after = after_more h;
         short = omega (arith, s.short, rises, length-append s.said (h.line ∷ []));
+        paid = omega (arith, s.paid, a.price, price_more h);
       })
       (λ h. absurd (true≢false (sym h.3 ∙ open_still)))
       (heard_by old new n.0 left before now line n.3)
 
   abbrev Ended : Option (List ℕ) → Ending → Type 0
-  Ended held e = (gave : List ℕ) × Consumes left_old left gave × Lasts (start ++ gave) (base + length gave) left held_old held e
+  Ended held e = (gave : List ℕ) × Consumes left_old left gave × Lasts (start ++ gave) (base + length gave) left held_old held paid_old paid e
 
   -- where the line was nothing, its text is nothing more
   nothing_more : heard line ≡ [] → text_of (script_of s.said) ++ text ≡ text_of (script_of s.said)
   nothing_more h = sym a.text_is ∙ ap text_of (ap (λ ls. script_of s.said ++ ls) h ∙ append-nil (script_of s.said))
 
+  nothing_paid : heard line ≡ [] → price_of (script_of s.said ++ heard line) ≡ price_of (script_of s.said)
+  nothing_paid h = ap price_of (ap (λ ls. script_of s.said ++ ls) h ∙ append-nil (script_of s.said))
+
   -- the input is at its end
   pub is_done : (held : Option (List ℕ)) → new.ended ≡ true → Appends held_mid held text → Ended held ending.Done
   is_done held ended wrote =
       let all = Appends-trans held_old held_mid held (text_of (script_of s.said)) text s.wrote wrote in
-      let now_lines = lines_now start base left_old mid held_old held_mid old replay s n.0 in (
+      let now_lines = lines_now start base left_old mid held_old held_mid old replay paid_old paid_mid s n.0 in (
         s.gave ++ n.0,
         Consumes-trans left_old mid left s.gave n.0 s.took n.1,
         ⊎_elim
             (λ (h : Heard old new n.0 left (heard line)).
             let e = at true (old.held ++ n.0) h.line new left ended h.given in
             let is : lines_of (start ++ (s.gave ++ n.0)) ≡ s.said ++ h.line ∷ [] = now_lines ∙ ap (λ xs. s.said ++ xs) (ap lines_of e.0 ∙ lines_of-last h.line h.no_lf e.2) in
-            (e.3, subst (Appends held_old held) (sym (said_more h) ∙ ap (λ ls. text_of (script_of ls)) (sym is)) all))
+            (e.3, subst (Appends held_old held) (sym (said_more h) ∙ ap (λ ls. text_of (script_of ls)) (sym is)) all, omega (arith, s.paid, a.price, price_more h, ap (λ ls. price_of (script_of ls)) is)))
             (λ h.
             let is : lines_of (start ++ (s.gave ++ n.0)) ≡ s.said = now_lines ∙ (ap (λ xs. s.said ++ lines_of xs) h.1 ∙ append-nil s.said) in
-            (h.2, subst (Appends held_old held) (nothing_more h.0 ∙ ap (λ ls. text_of (script_of ls)) (sym is)) all))
+            (h.2, subst (Appends held_old held) (nothing_more h.0 ∙ ap (λ ls. text_of (script_of ls)) (sym is)) all, omega (arith, s.paid, a.price, nothing_paid h.0, ap (λ ls. price_of (script_of ls)) is)))
             (heard_by old new n.0 left before now line n.3),
       )
 
@@ -204,7 +213,7 @@ module _ (start : List ℕ) (base : ℕ) (left_old mid left held_old held_mid : 
   pub broke : (held : Option (List ℕ)) → AppendsFront held_mid held text → Ended held ending.Write
   broke held wrote =
       let all = front_after held_old held_mid held (text_of (script_of s.said)) text s.wrote wrote in
-      let now_lines = lines_now start base left_old mid held_old held_mid old replay s n.0 in (
+      let now_lines = lines_now start base left_old mid held_old held_mid old replay paid_old paid_mid s n.0 in (
         s.gave ++ n.0,
         Consumes-trans left_old mid left s.gave n.0 s.took n.1,
         inl (⊎_elim
@@ -222,57 +231,57 @@ module _ (start : List ℕ) (base : ℕ) (left_old mid left held_old held_mid : 
       )
 
 -- what was written so far is at the front of the text
-so_far : (start : List ℕ) (base : ℕ) (left_old mid held_old held_mid : Option (List ℕ)) (old : Reader) (replay : Replay) (s : Said start base left_old mid held_old held_mid old replay) (bs : List ℕ) → AppendsFront held_old held_mid (text_of (script_of (lines_of (start ++ (s.gave ++ bs)))))
-so_far start base left_old mid held_old held_mid old replay s bs =
+so_far : (start : List ℕ) (base : ℕ) (left_old mid held_old held_mid : Option (List ℕ)) (old : Reader) (replay : Replay) (paid_old paid_mid : ℕ) (s : Said start base left_old mid held_old held_mid old replay paid_old paid_mid) (bs : List ℕ) → AppendsFront held_old held_mid (text_of (script_of (lines_of (start ++ (s.gave ++ bs)))))
+so_far start base left_old mid held_old held_mid old replay paid_old paid_mid s bs =
     let further = goes_further replay (script_of s.said) (script_of (lines_of (old.held ++ bs))) s.after in
     let text_is : text_of (script_of (lines_of (start ++ (s.gave ++ bs)))) ≡ text_of (script_of s.said) ++ further.0 =
-    ap (λ ls. text_of (script_of ls)) (lines_now start base left_old mid held_old held_mid old replay s bs) ∙ (ap text_of (map-append read_of s.said (lines_of (old.held ++ bs))) ∙ further.1) in
+    ap (λ ls. text_of (script_of ls)) (lines_now start base left_old mid held_old held_mid old replay paid_old paid_mid s bs) ∙ (ap text_of (map-append read_of s.said (lines_of (old.held ++ bs))) ∙ further.1) in
     subst (AppendsFront held_old held_mid) (sym text_is) (front_of_more held_old held_mid (text_of (script_of s.said)) further.0 (front_whole held_old held_mid (text_of (script_of s.said)) s.wrote))
 
 -- memory ran out after a line was given
-pub out_of_memory : (start : List ℕ) (base : ℕ) (left_old mid left held_old held_mid : Option (List ℕ)) (old new : Reader) (before now : ℕ) (replay : Replay) (r : Result Given (Refused LineFault))
-    (s : Said start base left_old mid held_old held_mid old replay) → Next most_bytes old new mid left before now r → (gave : List ℕ) × Consumes left_old left gave × Lasts (start ++ gave) (base + length gave) left held_old held_mid ending.NoMemory
-out_of_memory start base left_old mid left held_old held_mid old new before now replay r s n =
-    (s.gave ++ n.0, Consumes-trans left_old mid left s.gave n.0 s.took n.1, inl (so_far start base left_old mid held_old held_mid old replay s n.0))
+pub out_of_memory : (start : List ℕ) (base : ℕ) (left_old mid left held_old held_mid : Option (List ℕ)) (old new : Reader) (before now : ℕ) (replay : Replay) (r : Result Given (Refused LineFault)) (paid_old paid_mid paid : ℕ)
+    (s : Said start base left_old mid held_old held_mid old replay paid_old paid_mid) → Next most_bytes old new mid left before now r → (gave : List ℕ) × Consumes left_old left gave × Lasts (start ++ gave) (base + length gave) left held_old held_mid paid_old paid ending.NoMemory
+out_of_memory start base left_old mid left held_old held_mid old new before now replay r paid_old paid_mid paid s n =
+    (s.gave ++ n.0, Consumes-trans left_old mid left s.gave n.0 s.took n.1, inl (so_far start base left_old mid held_old held_mid old replay paid_old paid_mid s n.0))
 
 -- the lines that were read whole, where no further line was
-no_further : (start : List ℕ) (base : ℕ) (left_old mid held_old held_mid : Option (List ℕ)) (old : Reader) (replay : Replay) (s : Said start base left_old mid held_old held_mid old replay) (bs : List ℕ) → HasNoLf (old.held ++ bs) → whole_lines (start ++ (s.gave ++ bs)) ≡ s.said
-no_further start base left_old mid held_old held_mid old replay s bs none =
-    whole_now start base left_old mid held_old held_mid old replay s bs ∙ (ap (λ xs. s.said ++ xs) (whole_lines-none (old.held ++ bs) none) ∙ append-nil s.said)
+no_further : (start : List ℕ) (base : ℕ) (left_old mid held_old held_mid : Option (List ℕ)) (old : Reader) (replay : Replay) (paid_old paid_mid : ℕ) (s : Said start base left_old mid held_old held_mid old replay paid_old paid_mid) (bs : List ℕ) → HasNoLf (old.held ++ bs) → whole_lines (start ++ (s.gave ++ bs)) ≡ s.said
+no_further start base left_old mid held_old held_mid old replay paid_old paid_mid s bs none =
+    whole_now start base left_old mid held_old held_mid old replay paid_old paid_mid s bs ∙ (ap (λ xs. s.said ++ xs) (whole_lines-none (old.held ++ bs) none) ∙ append-nil s.said)
 
 -- the reader refused
-pub stopped : (start : List ℕ) (base : ℕ) (left_old mid left held_old held_mid held : Option (List ℕ)) (old new : Reader) (before now : ℕ) (replay : Replay) (refused : Refused LineFault) (e : Ending)
-    (s : Said start base left_old mid held_old held_mid old replay) → Next most_bytes old new mid left before now (Err refused) → Stops held_mid held refused e → (gave : List ℕ) × Consumes left_old left gave × Lasts (start ++ gave) (base + length gave) left held_old held e
-stopped start base left_old mid left held_old held_mid held old new before now replay OutOfMemory ending.NoMemory s n same =
-    (s.gave ++ n.0, Consumes-trans left_old mid left s.gave n.0 s.took n.1, inl (rw same (so_far start base left_old mid held_old held_mid old replay s n.0)))
-stopped start base left_old mid left held_old held_mid held old new before now replay (Fault ReadFault) ending.Read s n same = (
+pub stopped : (start : List ℕ) (base : ℕ) (left_old mid left held_old held_mid held : Option (List ℕ)) (old new : Reader) (before now : ℕ) (replay : Replay) (refused : Refused LineFault) (e : Ending) (paid_old paid_mid paid : ℕ)
+    (s : Said start base left_old mid held_old held_mid old replay paid_old paid_mid) → Next most_bytes old new mid left before now (Err refused) → Stops held_mid held refused e → (gave : List ℕ) × Consumes left_old left gave × Lasts (start ++ gave) (base + length gave) left held_old held paid_old paid e
+stopped start base left_old mid left held_old held_mid held old new before now replay OutOfMemory ending.NoMemory paid_old paid_mid paid s n same =
+    (s.gave ++ n.0, Consumes-trans left_old mid left s.gave n.0 s.took n.1, inl (rw same (so_far start base left_old mid held_old held_mid old replay paid_old paid_mid s n.0)))
+stopped start base left_old mid left held_old held_mid held old new before now replay (Fault ReadFault) ending.Read paid_old paid_mid paid s n same = (
   s.gave ++ n.0,
   Consumes-trans left_old mid left s.gave n.0 s.took n.1,
-  rw same (subst (λ ls. Appends held_old held_mid (text_of (script_of ls))) (sym (no_further start base left_old mid held_old held_mid old replay s n.0 n.3.0)) s.wrote),
+  rw same (subst (λ ls. Appends held_old held_mid (text_of (script_of ls))) (sym (no_further start base left_old mid held_old held_mid old replay paid_old paid_mid s n.0 n.3.0)) s.wrote),
 )
-stopped start base left_old mid left held_old held_mid held old new before now replay (Fault SpentFault) ending.BytesLimit s n wrote = (
+stopped start base left_old mid left held_old held_mid held old new before now replay (Fault SpentFault) ending.BytesLimit paid_old paid_mid paid s n wrote = (
   s.gave ++ n.0,
   Consumes-trans left_old mid left s.gave n.0 s.took n.1,
   (
     omega (arith, length-append s.gave n.0, s.count, n.2, n.3.1),
-    subst (λ ls. Appends held_old held (text_of (script_of ls) ++ bytes_limit_text)) (sym (no_further start base left_old mid held_old held_mid old replay s n.0 n.3.0))
+    subst (λ ls. Appends held_old held (text_of (script_of ls) ++ bytes_limit_text)) (sym (no_further start base left_old mid held_old held_mid old replay paid_old paid_mid s n.0 n.3.0))
         (Appends-trans held_old held_mid held (text_of (script_of s.said)) bytes_limit_text s.wrote wrote),
   ),
 )
-stopped start base left_old mid left held_old held_mid held old new before now replay (Fault SpentFault) ending.Write s n wrote = (
+stopped start base left_old mid left held_old held_mid held old new before now replay (Fault SpentFault) ending.Write paid_old paid_mid paid s n wrote = (
   s.gave ++ n.0,
   Consumes-trans left_old mid left s.gave n.0 s.took n.1,
   inr (
     omega (arith, length-append s.gave n.0, s.count, n.2, n.3.1),
-    subst (λ ls. AppendsFront held_old held (text_of (script_of ls) ++ bytes_limit_text)) (sym (no_further start base left_old mid held_old held_mid old replay s n.0 n.3.0))
+    subst (λ ls. AppendsFront held_old held (text_of (script_of ls) ++ bytes_limit_text)) (sym (no_further start base left_old mid held_old held_mid old replay paid_old paid_mid s n.0 n.3.0))
         (front_after held_old held_mid held (text_of (script_of s.said)) bytes_limit_text s.wrote wrote),
   ),
 )
-stopped start base left_old mid left held_old held_mid held old new before now replay _ _ s n wrote = absurd wrote
+stopped start base left_old mid left held_old held_mid held old new before now replay _ _ paid_old paid_mid paid s n wrote = absurd wrote
 
 -- before the first line
-pub begun : (reader : Reader) (replay : Replay) (left held : Option (List ℕ)) → IsAfter replay [] → Said reader.held reader.taken left left held held reader replay
-begun reader replay left held after = record {
+pub begun : (reader : Reader) (replay : Replay) (left held : Option (List ℕ)) (paid : ℕ) → IsAfter replay [] → Said reader.held reader.taken left left held held reader replay paid paid
+begun reader replay left held paid after = record {
   gave = [];
   said = [];
   took = Consumes-nil left;
@@ -282,6 +291,7 @@ begun reader replay left held after = record {
   wrote = Appends-nil held;
   after = after;
   short = omega arith;
+  paid = omega arith;
 }
 
 -- the count of the source's faults rose where it is said that it failed

@@ -1,5 +1,5 @@
 -- How a replay ends, and what was written then.
-use Rattle.std.specs.Prelude.{ℕ, ◌≡◌, ◌⊎◌, ◌≤◌, ◌<◌, List, [], ◌∷◌, ◌++◌, length, map, codes, true, false, Option}
+use Rattle.std.specs.Prelude.{ℕ, ◌≡◌, ◌⊎◌, ◌+◌, ◌≤◌, ◌<◌, List, [], ◌∷◌, ◌++◌, length, map, codes, true, false, Option}
 use Rattle.std.specs.Io.KnownBytes.{Appends, IsAtEnd}
 use Rattle.ely_base.specs.declared.refused.Refused.{Refused}
 use Rattle.ely_base.specs.declared.refused.Refused.TheVariants.{Fault, NoMemory as OutOfMemory}
@@ -13,7 +13,7 @@ use Rattle.ely_front.specs.declared.ending.Ending.TheVariants.{Done, NoMemory, W
 use Rattle.ely_script.specs.Text.{text}
 use Rattle.ely_domain.specs.Headline.{IsHistoryOf}
 use Rattle.ely_domain.specs.Replays.{Made, entry_of}
-use Rattle.ely_front.specs.Scripts.{shipped, text_of, script_of, is_config}
+use Rattle.ely_front.specs.Scripts.{shipped, text_of, cost_of, price_of, script_of, is_config}
 
 -- the exit status of each ending
 abbrev pub status_of : Ending → ℕ
@@ -38,14 +38,15 @@ spent_text bytes = text_of (script_of (whole_lines bytes)) ++ bytes_limit_text
 abbrev pub IsCut : List ℕ → ℕ → Option (List ℕ) → Option (List ℕ) → Type 0
 IsCut bytes total old new = AppendsFront old new (text_of (script_of (lines_of bytes))) ⊎ ((total ≡ most) × AppendsFront old new (spent_text bytes))
 
--- What was written of these bytes behind the first line, where the reader took so many bytes in all, and the source has left.
-abbrev pub Lasts : List ℕ → ℕ → Option (List ℕ) → Option (List ℕ) → Option (List ℕ) → Ending → Type 0
-Lasts bytes total left old new Done = IsAtEnd left × Appends old new (text_of (script_of (lines_of bytes)))
-Lasts bytes total left old new Read = Appends old new (text_of (script_of (whole_lines bytes)))
-Lasts bytes total left old new BytesLimit = (total ≡ most) × Appends old new (spent_text bytes)
-Lasts bytes total left old new NoMemory = IsCut bytes total old new
-Lasts bytes total left old new Write = IsCut bytes total old new
-Lasts bytes total left old new _ = ⊥
+-- What was written of these bytes behind the first line, where the reader took so many bytes in all, the source has left, and the counter of HMAC
+-- computations went from before to now.
+abbrev pub Lasts : List ℕ → ℕ → Option (List ℕ) → Option (List ℕ) → Option (List ℕ) → ℕ → ℕ → Ending → Type 0
+Lasts bytes total left old new before now Done = IsAtEnd left × Appends old new (text_of (script_of (lines_of bytes))) × (now ≤ before + price_of (script_of (lines_of bytes)))
+Lasts bytes total left old new before now Read = Appends old new (text_of (script_of (whole_lines bytes)))
+Lasts bytes total left old new before now BytesLimit = (total ≡ most) × Appends old new (spent_text bytes)
+Lasts bytes total left old new before now NoMemory = IsCut bytes total old new
+Lasts bytes total left old new before now Write = IsCut bytes total old new
+Lasts bytes total left old new before now _ = ⊥
 
 -- what a refusal of the reader of lines leads to
 abbrev pub Stops : Option (List ℕ) → Option (List ℕ) → Refused LineFault → Ending → Type 0
@@ -87,7 +88,8 @@ said_of [] = []
 said_of (first ∷ lines) = text_of (script_of lines)
 
 -- The whole input was read, its first line is the configuration, and the text of the whole history of the other lines was written, and nothing else.
-pub record IsDone (gave : List ℕ) (left old new : Option (List ℕ)) : Type 0 where
+-- The counter of HMAC computations rose by the cost of that history at most.
+pub record IsDone (gave : List ℕ) (left old new : Option (List ℕ)) (before now : ℕ) : Type 0 where
   pub first : List ℕ
   pub lines : List (List ℕ)
   pub history : List Made
@@ -96,6 +98,7 @@ pub record IsDone (gave : List ℕ) (left old new : Option (List ℕ)) : Type 0 
   pub is_configured : is_config first ≡ true
   pub is_history : IsHistoryOf shipped (script_of lines) history
   pub is_written : Appends old new (text (map entry_of history))
+  pub is_paid : now ≤ before + cost_of history
 
 -- the text that belongs to an ending, for the bytes that the source gave
 abbrev pub Says : List ℕ → Option (List ℕ) → Ending → List ℕ → Type 0
@@ -114,10 +117,10 @@ IsCutShort gave left old new = (new ≡ old) ⊎ ((ending : Ending) × (said : L
 abbrev pub IsSaid : List ℕ → Option (List ℕ) → Option (List ℕ) → Option (List ℕ) → Ending → Type 0
 IsSaid gave left old new ending = (said : List ℕ) × Says gave left ending said × Appends old new said
 
--- How a replay ends: the source gave these bytes and has left, and the sink went from old to new.
-abbrev pub Ends : List ℕ → Option (List ℕ) → Option (List ℕ) → Option (List ℕ) → Ending → Type 0
-Ends gave left old new Done = IsDone gave left old new
-Ends gave left old new NoMemory = IsCutShort gave left old new
-Ends gave left old new Write = IsCutShort gave left old new
-Ends gave left old new Words = ⊥
-Ends gave left old new ending = IsSaid gave left old new ending
+-- How a replay ends: the source gave these bytes and has left, the sink went from old to new, and the counter from before to now.
+abbrev pub Ends : List ℕ → Option (List ℕ) → Option (List ℕ) → Option (List ℕ) → ℕ → ℕ → Ending → Type 0
+Ends gave left old new before now Done = IsDone gave left old new before now
+Ends gave left old new before now NoMemory = IsCutShort gave left old new
+Ends gave left old new before now Write = IsCutShort gave left old new
+Ends gave left old new before now Words = ⊥
+Ends gave left old new before now ending = IsSaid gave left old new ending

@@ -17,9 +17,9 @@ is_mode (Some word) = bytes_eq word (codes "replay")
 abbrev pub is_command : List (List ℕ) → Bool
 is_command words = length words == 2 && is_mode (slice_get words 1)
 
--- The source gave some bytes and the sink took some, as one ending has it, and the status is that of this ending.
-abbrev pub Replays : Option (List ℕ) → Option (List ℕ) → Option (List ℕ) → Option (List ℕ) → ℕ → Type 0
-Replays left_old left old new status = (ending : Ending) × (gave : List ℕ) × (status ≡ status_of ending) × Consumes left_old left gave × Ends gave left old new ending
+-- The source gave some bytes, the sink took some and the counter rose, as one ending has it, and the status is that of this ending.
+abbrev pub Replays : Option (List ℕ) → Option (List ℕ) → Option (List ℕ) → Option (List ℕ) → ℕ → ℕ → ℕ → Type 0
+Replays left_old left old new before now status = (ending : Ending) × (gave : List ℕ) × (status ≡ status_of ending) × Consumes left_old left gave × Ends gave left old new before now ending
 
 -- that the words are no command was written, or the sink failed
 abbrev pub RefusesWords : Option (List ℕ) → Option (List ℕ) → ℕ → Type 0
@@ -33,6 +33,6 @@ pub record IsWithinLimits (left : Option (List ℕ)) (bytes : List ℕ) : Type 0
   pub configured : lines_of bytes ≡ codes "{}" ∷ lines
 
 -- Where neither the source nor the sink failed, the whole text of such bytes was written, or memory ran out.
-abbrev pub IsComplete : Option (List ℕ) → Option (List ℕ) → Option (List ℕ) → Option (List ℕ) → ℕ → ℕ → ℕ → ℕ → ℕ → Type 0
-IsComplete left_old left old new source_before source_now sink_before sink_now status = (bytes : List ℕ) → IsWithinLimits left_old bytes
-    → (Rose source_before source_now → ⊥) → (Rose sink_before sink_now → ⊥) → ((status ≡ 0) × IsDone bytes left old new) ⊎ (status ≡ 1)
+abbrev pub IsComplete : Option (List ℕ) → Option (List ℕ) → Option (List ℕ) → Option (List ℕ) → ℕ → ℕ → ℕ → ℕ → ℕ → ℕ → ℕ → Type 0
+IsComplete left_old left old new before now source_before source_now sink_before sink_now status = (bytes : List ℕ) → IsWithinLimits left_old bytes
+    → (Rose source_before source_now → ⊥) → (Rose sink_before sink_now → ⊥) → ((status ≡ 0) × IsDone bytes left old new before now) ⊎ (status ≡ 1)

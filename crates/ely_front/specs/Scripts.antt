@@ -3,8 +3,9 @@ use Rattle.std.specs.Prelude.{ℕ, Bool, List, map, codes}
 use Rattle.std.specs.Str.{bytes_eq}
 use Rattle.ely_script.specs.Reading.{Line, read_of}
 use Rattle.ely_script.specs.Text.{text}
-use Rattle.ely_domain.specs.Machine.{Given}
-use Rattle.ely_domain.specs.Replays.{Made, entry_of, replayed}
+use Rattle.ely_domain.specs.Costs.{cost_from}
+use Rattle.ely_domain.specs.Machine.{Given, first_machine}
+use Rattle.ely_domain.specs.Replays.{Made, entry_of, replayed, steps_of}
 
 -- the domain that every mode begins with: the limit of its journal
 abbrev pub shipped : Given
@@ -17,6 +18,14 @@ history_of lines = replayed shipped lines
 -- the text of the history of these lines in file order
 abbrev pub text_of : List Line → List ℕ
 text_of lines = text (map entry_of (history_of lines))
+
+-- how many HMAC computations a history takes: each naming derives its key, and each check tries its password
+abbrev pub cost_of : List Made → ℕ
+cost_of h = cost_from shipped first_machine (steps_of h)
+
+-- the cost of the history of these lines
+unfoldable pub price_of : List Line → ℕ
+price_of lines = cost_of (history_of lines)
 
 -- the lines behind the first one, as they are read
 abbrev pub script_of : List (List ℕ) → List Line

@@ -1,19 +1,21 @@
 //! A script that is replayed line by line: each line is run without pause, and its steps are printed.
 
-ghost use Rattle.std.specs.Prelude.{◌≡◌, ◌≢◌, ◌+◌, ◌-◌, ◌<◌, ◌^◌, ℕ, List, [], ◌∷◌, ◌++◌, length, map, OnOk, IfOk, unwrap_or, Some};
+ghost use Rattle.std.specs.Prelude.{◌≡◌, ◌≢◌, ◌+◌, ◌-◌, ◌<◌, ◌≤◌, ◌^◌, ℕ, List, [], ◌∷◌, ◌++◌, length, map, OnOk, IfOk, unwrap_or, Some};
 ghost use Rattle.std.specs.Ordering.{nat_cmp};
 ghost use Rattle.std.specs.BTreeMap.{get};
 ghost use Rattle.ely_script.specs.Reading.{Line};
 ghost use Rattle.ely_script.specs.Text.{line_text, text_from, numbered};
-ghost use Rattle.ely_front.specs.Scripts.{text_of};
+ghost use Rattle.ely_front.specs.Scripts.{text_of, price_of};
 ghost use Rattle.ely_front.specs.After.{IsAfter, HasRoom};
 
 use crate::line::run_line;
 use ely_base::NoMemory;
 use ely_domain::{Domain, JOURNAL_LIMIT, actor_of};
+use ely_hash::Steps;
 use ely_script::{Command, Entry, LineError, print_numbered};
 use std::alloc::Global;
 use std::collections::BTreeMap;
+use std::sync::ledger::Ledger;
 
 /// A domain, how many lines each actor has had, and the number of the next step.
 #[derive(Drop)]
@@ -58,28 +60,31 @@ fn push_entries(
 
 impl Replay {
     /// A replay before the first line.
-    pub(crate) fn new(alloc: Global) -> Replay
-        ensures { IsAfter result [] }
+    #[tactic(auto, unfolding(crate::specs::Scripts::price_of))]
+    pub(crate) fn new(alloc: Global) -> Result<Replay, NoMemory>
+        ensures { IfOk result (λ replay. IsAfter replay []) }
     {
-        Replay {
-            domain: Domain::new(alloc, JOURNAL_LIMIT),
+        Ok(Replay {
+            domain: Domain::new(alloc, JOURNAL_LIMIT)?,
             counts: BTreeMap::new(alloc),
             number: 1,
-        }
+        })
     }
 
     /// Answers the next line, with the text of its steps.
-    pub(crate) fn answer(
+    pub(crate) fn answer<L: Ledger>(
         &mut self,
         alloc: Global,
         line: &Result<Command, LineError>,
+        steps: &mut Steps<L>,
     ) -> Result<Vec<u8>, NoMemory>
         requires { HasRoom self.old }
         ensures text { IfOk result (λ text. (lines : List Line) → IsAfter self.old lines → text_of (lines ++ line.now ∷ []) ≡ text_of lines ++ text.items) }
         ensures after { OnOk result ((lines : List Line) → IsAfter self.old lines → IsAfter self.new (lines ++ line.now ∷ [])) }
+        ensures price { OnOk result ((lines : List Line) → IsAfter self.old lines → steps.new + price_of lines ≤ steps.old + price_of (lines ++ line.now ∷ [])) }
     {
         let number = next_line(&mut self.counts, actor_of(line))?;
-        let entries = run_line(alloc, &mut self.domain, line)?;
+        let entries = run_line(alloc, &mut self.domain, line, steps)?;
         let mut out = Vec::new(alloc);
         self.number = push_entries(alloc, &mut out, self.number, number, &entries)?;
         Ok(out)

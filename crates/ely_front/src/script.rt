@@ -10,8 +10,10 @@ ghost use Rattle.ely_front.specs.FirstLines.{judged, Refuses};
 
 use crate::ending::Ending;
 use crate::replaying::{replay_lines, stop};
+use ely_hash::Steps;
 use ely_io::{Line, LineReader, Sink, Source, write_all};
 use std::alloc::Global;
+use std::sync::ledger::Ledger;
 
 /// The most bytes of the first line.
 const CONFIG_LIMIT: usize = 1048576;
@@ -68,13 +70,14 @@ pub(crate) fn refuse<K: Sink>(sink: &mut K, text: &[u8], ending: Ending) -> Endi
 }
 
 /// Replays the script that the source gives.
-pub(crate) fn replay_script<S: Source, K: Sink>(
+pub(crate) fn replay_script<S: Source, K: Sink, L: Ledger>(
     alloc: Global,
     source: &mut S,
     sink: &mut K,
+    steps: &mut Steps<L>,
 ) -> Ending
     ensures ends { (gave : List ℕ) × Consumes (S.left source.old) (S.left source.new) gave
-        × Ends gave (S.left source.new) (K.held sink.old) (K.held sink.new) result }
+        × Ends gave (S.left source.new) (K.held sink.old) (K.held sink.new) steps.old steps.new result }
     ensures read { result ≡ Ending.Read → Rose (S.faults source.old) (S.faults source.new) }
     ensures write { result ≡ Ending.Write → Rose (K.faults sink.old) (K.faults sink.new) }
 {
@@ -93,7 +96,7 @@ pub(crate) fn replay_script<S: Source, K: Sink>(
             if reader.ended() {
                 return Ending::Done;
             }
-            replay_lines(alloc, &mut reader, source, sink)
+            replay_lines(alloc, &mut reader, source, sink, steps)
         }
     }
 }

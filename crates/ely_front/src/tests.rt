@@ -1,6 +1,37 @@
+ghost use Rattle.std.specs.Prelude.{◌≡◌, ◌<◌};
+
 use crate::run;
+use ely_hash::Steps;
 use ely_io::{Failed, MemSink, MemSource, Sink, Source};
+use std::alloc::Global;
+use std::marker::Brand;
+use std::sync::ledger::{Blank, Ledger};
 use std::test::Fail;
+
+fn counted<S: Source, K: Sink, L: Ledger>(
+    blank: Blank,
+    alloc: Global,
+    words: &[String],
+    source: &mut S,
+    sink: &mut K,
+) -> u8
+    requires name { blank.name ≡ L.name }
+    requires parts { blank.parts ≡ L.parts }
+    requires some { 0 < blank.parts }
+{
+    let mut steps = Steps::<L>::of(blank);
+    run(alloc, words, source, sink, &mut steps)
+}
+
+/// The status of a run with a counter of its own.
+fn status_of<S: Source, K: Sink>(
+    alloc: Global,
+    words: &[String],
+    source: &mut S,
+    sink: &mut K,
+) -> u8 {
+    counted::<S, K, Brand>(Blank::new(1), alloc, words, source, sink)
+}
 
 /// What a run on these words and this input writes, with its status as the last byte.
 fn ran(rt: &HostRuntime, words: &[&str], input: &[u8]) -> Result<Vec<u8>, Fail> {
@@ -14,7 +45,7 @@ fn ran(rt: &HostRuntime, words: &[&str], input: &[u8]) -> Result<Vec<u8>, Fail> 
         Vec::new(rt.alloc()),
     );
     let mut sink = MemSink::new(rt.alloc(), Vec::new(rt.alloc()), Vec::new(rt.alloc()));
-    let status = run(rt.alloc(), &list, &mut source, &mut sink);
+    let status = status_of(rt.alloc(), &list, &mut source, &mut sink);
     let mut shown = sink.bytes().to_vec(rt.alloc())?;
     shown.push(b'0' + status.min(9))?;
     Ok(shown)
@@ -119,6 +150,39 @@ fn an_unknown_name_and_a_wrong_password_are_refused(rt: HostRuntime) -> Result<(
     Ok(())
 }
 
+/// A login against a password that was salted with one turn of SHA-1 (RFC 6070), and what a hash of another name says.
+const SALTED: &[u8] = b"{}
+0 add main user
+0 set-cred main user 1 scram-sha-1 1:c2FsdA==:DGDID5YfDnHzqbUkr2ASBi/gN6Y=
+0 open 1 PLAIN
+0 plain 1 AHVzZXIAcGFzc3dvcmQ=
+0 set-cred main user 0 digest-md5 939e7578ed9e3c518a452acee763bce9:testrealm@host.com
+0 open 2 PLAIN
+0 plain 2 AHVzZXIAcGFzc3dvcmQ=
+0 set-cred main user 1 scram-sha-1 0:c2FsdA==:DGDID5YfDnHzqbUkr2ASBi/gN6Y=";
+
+const PROVED: &[u8] = b"1 0 1 add ok 1
+2 0 2 set-cred ok 2
+3 0 3 open ok 1
+4 0 4 name1 pinned 2 -
+5 0 4 name2 named -
+6 0 4 check1 ok
+7 0 4 check2 proved
+8 0 5 set-cred ok 3
+9 0 6 open ok 2
+10 0 7 name1 pinned 3 -
+11 0 7 name2 named -
+12 0 7 check1 ok
+13 0 7 check2 password
+14 0 8 bad-line cred turns
+0";
+
+#[test]
+fn a_password_proves_a_salted_one_in_the_lowest_slot(rt: HostRuntime) -> Result<(), Fail> {
+    assert_eq!(rt; ran(&rt, &REPLAY, SALTED)?.as_slice(), PROVED);
+    Ok(())
+}
+
 /// Gives the first 19 bytes of the login's input and fails from then on.
 #[derive(Drop)]
 struct Broken {
@@ -151,7 +215,7 @@ fn a_line_is_answered_before_the_next_is_read(rt: HostRuntime) -> Result<(), Fai
     ]?;
     let mut source = Broken { calls: 0 };
     let mut sink = MemSink::new(rt.alloc(), Vec::new(rt.alloc()), Vec::new(rt.alloc()));
-    assert_eq!(rt; run(rt.alloc(), &words, &mut source, &mut sink), 4);
+    assert_eq!(rt; status_of(rt.alloc(), &words, &mut source, &mut sink), 4);
     assert_eq!(rt; sink.bytes(), b"1 0 1 add ok 1\n".as_slice());
     Ok(())
 }
@@ -168,7 +232,7 @@ fn broken_sink(rt: &HostRuntime, takes: Vec<usize>) -> Result<Vec<u8>, Fail> {
         Vec::new(rt.alloc()),
     );
     let mut sink = MemSink::new(rt.alloc(), takes, Vec::new(rt.alloc()));
-    let status = run(rt.alloc(), &words, &mut source, &mut sink);
+    let status = status_of(rt.alloc(), &words, &mut source, &mut sink);
     let mut shown = sink.bytes().to_vec(rt.alloc())?;
     shown.push(b'0' + status.min(9))?;
     Ok(shown)

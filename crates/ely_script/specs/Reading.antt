@@ -12,8 +12,8 @@ use Rattle.ely_base.specs.Words.{read_word_of}
 use Rattle.ely_base.specs.declared.ids.CtxId.{CtxId}
 use Rattle.ely_plain.specs.declared.message.PlainMsg.{PlainMsg}
 use Rattle.ely_plain.specs.Messages.{plain_of}
-use Rattle.ely_row.specs.declared.cred.StoredCred.{StoredCred}
-use Rattle.ely_row.specs.declared.cred.CredFault.TheVariants.{Kind}
+use Rattle.ely_row.specs.declared.cred.Credential.{Credential}
+use Rattle.ely_row.specs.declared.fault.CredFault.TheVariants.{Kind}
 use Rattle.ely_row.specs.declared.edit.Edit.TheVariants as edits
 use Rattle.ely_row.specs.declared.mech.Mech.{Mech}
 use Rattle.ely_row.specs.declared.mech.Mech.TheVariants as mechs
@@ -127,15 +127,9 @@ remove_of args = do
   Ok (verbs.Change (edits.Remove place.0 place.1))
 
 -- a credential of a kind, whose text is a coded word; the kind stands left of the text
-abbrev pub cred_at : List ℕ → List ℕ → Result StoredCred BadLine
+abbrev pub cred_at : List ℕ → List ℕ → Result Credential BadLine
 cred_at kind text =
     if is_kind kind then (coded_at 7 text >>= λ bytes. refused_as bad.Cred (cred_of kind bytes)) else Err (bad.Cred Kind)
-
--- the kinds of credentials that aren't built yet
-abbrev pub is_later_kind : List ℕ → Bool
-is_later_kind kind =
-    bytes_eq kind (codes "scram-sha-1") || bytes_eq kind (codes "scram-sha-256")
-    || bytes_eq kind (codes "digest-md5") || bytes_eq kind (codes "digest-sha-256")
 
 -- nothing, or that this isn't built yet
 abbrev pub built : Bool → Result (Unit {0}) BadLine
@@ -145,7 +139,6 @@ built later = if later then Err bad.NotBuilt else Ok tt
 abbrev pub set_cred_of : List (List ℕ) → Result Verb BadLine
 set_cred_of args = do
   words ← five_of args
-  known ← built (is_later_kind words.3)
   place ← place_at words.0 words.1
   slot ← number_at 255 5 words.2
   cred ← cred_at words.3 words.4

@@ -6,8 +6,8 @@ use Rattle.base64.specs.Engines.{standard}
 use Rattle.ely_base.specs.Words.{word_text}
 use Rattle.ely_plain.specs.declared.message.PlainFault.{PlainFault}
 use Rattle.ely_plain.specs.declared.message.PlainFault.TheVariants as plain
-use Rattle.ely_row.specs.declared.cred.CredFault.{CredFault}
-use Rattle.ely_row.specs.declared.cred.CredFault.TheVariants as creds
+use Rattle.ely_row.specs.declared.fault.CredFault.{CredFault}
+use Rattle.ely_row.specs.declared.fault.CredFault.TheVariants as creds
 use Rattle.ely_row.specs.declared.edit.EditFault.{EditFault}
 use Rattle.ely_row.specs.declared.edit.EditFault.TheVariants as faults
 use Rattle.ely_row.specs.declared.edit.PropFault.{PropFault}

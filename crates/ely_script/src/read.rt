@@ -4,7 +4,7 @@ ghost use Rattle.std.specs.Prelude.{◌≡◌, ◌-◌, ◌^◌, Some};
 ghost use Rattle.std.specs.List.{list_all};
 ghost use Rattle.std.specs.Option.{option_map};
 ghost use Rattle.ely_base.specs.Refused.{Gives};
-ghost use Rattle.ely_script.specs.Reading.{place_at, add_of, remove_of, cred_at, is_later_kind, built, set_cred_of, drop_cred_of, set_attr_of, drop_attr_of, reload_of, is_later_mech, mech_at, is_nonce_byte, is_nonce, nonce_at, open_of, message_at, plain_verb_of, scram_of, digest_of, authorize_of, succeed_of, fail_of, close_of, permission_at, allows_of, edit_of, login_of, verb_of, verb_in, line_by, by_actor, read_of};
+ghost use Rattle.ely_script.specs.Reading.{place_at, add_of, remove_of, cred_at, built, set_cred_of, drop_cred_of, set_attr_of, drop_attr_of, reload_of, is_later_mech, mech_at, is_nonce_byte, is_nonce, nonce_at, open_of, message_at, plain_verb_of, scram_of, digest_of, authorize_of, succeed_of, fail_of, close_of, permission_at, allows_of, edit_of, login_of, verb_of, verb_in, line_by, by_actor, read_of};
 
 use crate::args::{Args, Word};
 use crate::command::{Command, LineError, Verb};
@@ -46,16 +46,6 @@ fn read_remove(alloc: Global, args: Args) -> Result<Verb, Refused<BadLine>>
     })
 }
 
-/// Whether a credential's kind is one that isn't built yet.
-fn is_later_kind(kind: &[u8]) -> bool
-    ensures { result ≡ is_later_kind kind.now }
-{
-    kind == b"scram-sha-1".as_slice()
-        || kind == b"scram-sha-256".as_slice()
-        || kind == b"digest-md5".as_slice()
-        || kind == b"digest-sha-256".as_slice()
-}
-
 /// Nothing, or that this isn't built yet.
 fn built(later: bool) -> Result<(), BadLine>
     ensures { result ≡ built later }
@@ -85,7 +75,6 @@ fn read_set_cred(alloc: Global, args: Args) -> Result<Verb, Refused<BadLine>>
     ensures { Gives result (set_cred_of args.entry) }
 {
     let (realm, name, slot, kind, text) = args.five()?;
-    built(is_later_kind(kind.bytes))?;
     let (realm, name) = read_place(alloc, realm, name)?;
     let slot = slot.number(255, 5)?;
     let cred = read_cred(alloc, kind, text)?;

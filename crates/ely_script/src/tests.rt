@@ -93,7 +93,7 @@ fn lines_without_an_actor_or_a_verb_are_refused(rt: HostRuntime) {
 
 #[test]
 fn edits_are_refused_by_their_first_fault(rt: HostRuntime) {
-    let lines: [(&[u8], BadLine); 31] = [
+    let lines: [(&[u8], BadLine); 33] = [
         (b"7 add main", BadLine::Arity),
         (b"7 add  main u", BadLine::Arity),
         (b"7 add main u ", BadLine::Arity),
@@ -122,8 +122,16 @@ fn edits_are_refused_by_their_first_fault(rt: HostRuntime) {
             b"7 set-cred main u 1 clear %0A",
             BadLine::Cred(CredFault::Text),
         ),
-        (b"7 set-cred % % x scram-sha-1 %", BadLine::NotBuilt),
+        (b"7 set-cred % % x scram-sha-1 %", BadLine::Word(3)),
         (b"7 set-cred main u 1 digest-md5", BadLine::Arity),
+        (
+            b"7 set-cred main u 1 scram-sha-256 2:c2FsdA==:6mwBTcctb4zNHtkqzh1B8NjeiVc=",
+            BadLine::Cred(CredFault::Length),
+        ),
+        (
+            b"7 set-cred main u 1 digest-md5 939e7578ed9e3c518a452acee763bce9:%22",
+            BadLine::Cred(CredFault::Text),
+        ),
         (b"7 drop-cred main u", BadLine::Arity),
         (b"7 drop-cred main u -1", BadLine::Number(5)),
         (b"7 drop-cred main % 256", BadLine::Word(4)),

@@ -8,4 +8,4 @@ returns-clause-ok c =
     failed_is (logins c.args.contexts.now) (logins c.set_state.new.contexts) c.args.id.0 (login c.in-Some.context.now).1 c.in-Some.ensures.is (sym c.can_fail.ensures ∙ c.if-not-can_fail.false) (c.set_state.ensures.is (login c.in-Some.context.now).1 c.in-Some.ensures.is)
 
 pub returns-clause-sound : goal.returns-clause-sound
-returns-clause-sound c = λ edits all. c.set_state.ensures.sound edits all refl
+returns-clause-sound c = λ edits all. c.set_state.ensures.sound edits all refl refl

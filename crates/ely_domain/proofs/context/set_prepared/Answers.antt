@@ -1,4 +1,4 @@
-use Rattle.std.proofs.Common.{refl}
+use Rattle.std.proofs.Common.{refl, sym, true≢false}
 use Rattle.ely_domain.specs.Machine.{moved}
 use Rattle.ely_script.specs.declared.word.StateWord.TheVariants.{Authorized}
 use Rattle.ely_domain.proofs.Finds.{found_change, found_is_login, sound_set, sound_at}
@@ -13,5 +13,6 @@ returns-in-Some-clause-sound c = λ edits all fits.
     let found = c.in-Some.ensures.some in
     sound_set edits _ _ _ all (record {
       past = (sound_at edits _ _ d all found.within).past;
-      ready = λ _. fits _ (found_is_login _ _ _ d found);
+      keyed = λ h. absurd (true≢false (sym h));
+      prepared = λ _. fits _ (found_is_login _ _ _ d found);
     })

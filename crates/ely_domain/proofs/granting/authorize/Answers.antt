@@ -6,23 +6,17 @@ use Rattle.ely_domain.proofs.Pins.{past_of, authorized}
 use Rattle.std.proofs.lemmas.Option.{same_Some}
 use Rattle.ely_domain.proofs.granting.authorize.Goals as goal
 
-pub grants-requires : goal.grants-requires
-grants-requires c = past_of _ _ _ (c.in-Ok.ensures.sound c.args.edits.now c.requires.sound).past c.in-Some.is
-
-pub prepared_for-requires-clause-version : goal.prepared_for-requires-clause-version
-prepared_for-requires-clause-version c = past_of _ _ _ (c.in-Ok.ensures.sound c.args.edits.now c.requires.sound).past c.in-Some.is
-
 pub returns-clause-ok : goal.returns-clause-ok
 returns-clause-ok c =
     let found = c.in-Ok.ensures.found in
-    let granted = sym c.grants.ensures ∙ c.if-not-grants.false in
+    let granted = sym (c.grants.ensures c.args.tables.now.journal) ∙ c.if-not-grants.false in
     let moved = c.set_prepared.ensures.is _ found.is in
-    found.answers _ _ (authorized c.args.edits.now _ _ _ _ (pinned c.in-Some.pin) (ap (option_map pinned) c.in-Some.is) granted ∙ ap (λ live. (outcomes.Authorized, live)) (sym moved))
+    found.answers _ _ (authorized c.args.tables.now.journal _ _ _ _ (pinned c.in-Some.pin) (ap (option_map pinned) c.in-Some.is) granted ∙ ap (λ live. (outcomes.Authorized, live)) (sym moved))
 
 pub returns-clause-sound : goal.returns-clause-sound
 returns-clause-sound c =
     let found = c.in-Ok.ensures.found in
-    c.set_prepared.ensures.sound c.args.edits.now c.requires.sound
+    c.set_prepared.ensures.sound c.args.tables.now.journal c.requires
     (λ l is.
     let same = same_Some _ _ (sym found.is ∙ is) in
-    rw (← same) (rw c.in-Some.is (ap Some c.in_ok-prepared.ensures)))
+    rw (← same) (rw c.in-Some.is (ap Some (c.in_ok-prepared.ensures c.args.tables.now.journal (past_of _ _ _ (c.in-Ok.ensures.sound c.args.tables.now.journal c.requires).past c.in-Some.is)))))

@@ -27,7 +27,7 @@ is_write ending.BytesLimit h = absurd cc
 
 pub returns-clause-complete : goal.returns-clause-complete
 returns-clause-complete g c =
-    complete (g.S.Source.left c.args.source.now) (g.S.Source.left c.replay_script.new.source) (g.K.Sink.held c.args.sink.now) (g.K.Sink.held c.replay_script.new.sink) (g.S.Source.faults c.args.source.now) (g.S.Source.faults c.replay_script.new.source) (g.K.Sink.faults c.args.sink.now) (g.K.Sink.faults c.replay_script.new.sink)
+    complete (g.S.Source.left c.args.source.now) (g.S.Source.left c.replay_script.new.source) (g.K.Sink.held c.args.sink.now) (g.K.Sink.held c.replay_script.new.sink) c.args.steps.now c.replay_script.new.steps (g.S.Source.faults c.args.source.now) (g.S.Source.faults c.replay_script.new.source) (g.K.Sink.faults c.args.sink.now) (g.K.Sink.faults c.replay_script.new.sink)
     c.status.result c.replay_script.result c.status.ensures
     (λ h. c.replay_script.ensures.read (is_read c.replay_script.result (sym c.status.ensures ∙ h)))
     (λ h. c.replay_script.ensures.write (is_write c.replay_script.result (sym c.status.ensures ∙ h)))

@@ -6,7 +6,7 @@ use Rattle.ely_front.proofs.replaying.replay_lines.Goals as goal
 
 pub loop-line-init : goal.loop-line-init
 loop-line-init g c = record {
-  said = begun c.args.reader.now c.new-replay.result (g.S.Source.left c.args.source.now) (g.K.Sink.held c.args.sink.now) c.new-replay.ensures;
+  said = begun c.args.reader.now c.new-replay.result (g.S.Source.left c.args.source.now) (g.K.Sink.held c.args.sink.now) c.args.steps.now c.in-Ok.ensures;
   mark = c.requires.mark;
   counts = c.requires.counts;
   source = omega arith;

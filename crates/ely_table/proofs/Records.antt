@@ -1,0 +1,185 @@
+-- The tables are kept what the journal says, edit by edit.
+use Rattle.std.proofs.Common.{◌≡◌, ℕ, ◌+◌, ◌<◌, ◌≤◌, Bool, true, false, cond, leb, List, [], ◌∷◌, ◌++◌, length, Option, Some, None, refl, sym, ap, ◌∙◌, subst, ◌⊎◌, ⊎_elim, inl, inr, arith}
+use Rattle.std.specs.Option.{option_map}
+use Rattle.std.specs.Map.{lookup}
+use Rattle.std.specs.BTreeMap.{is_at}
+use Rattle.std.specs.Str.{bytes_eq}
+use Rattle.std.proofs.lemmas.Bool.{leb-false}
+use Rattle.std.proofs.lemmas.List.{length_push}
+use Rattle.std.proofs.lemmas.List.Sums.{fold_push}
+use Rattle.ely_row.specs.declared.edit.Edit.{Edit}
+use Rattle.ely_row.specs.declared.edit.EditFault.{EditFault}
+use Rattle.ely_row.specs.declared.edit.EditFault.TheVariants.{JournalFull}
+use Rattle.ely_row.specs.Rows.{Identity, name_cmp, is_place, realm_of, name_of, row, row_after, row_fault}
+use Rattle.ely_table.specs.declared.class.RealmClass.{RealmClass}
+use Rattle.ely_table.specs.declared.class.RealmClass.TheVariants.{Modifiable, Composite}
+use Rattle.ely_table.specs.declared.table.Table.{Table}
+use Rattle.ely_table.specs.Entries.{entry_in, entry_row, entry_last, rows_in, table_fault, kept_fault}
+use Rattle.ely_table.specs.Faults.{class_of, class_fault, count_after, row_count, fault, are_apart, IsAccepted}
+use Rattle.ely_table.specs.Kept.{realms_of, table_of, count_of, last_from, last_touch, AreEmpty, AreKept, IsStep, IsSame, IsRecord}
+
+-- the row after one more edit
+row_push : (edits : List Edit) (edit : Edit) (r n : List ℕ) → row (edits ++ edit ∷ []) r n ≡ row_after r n (row edits r n) edit
+unfolding row
+row_push edits edit r n = fold_push (row_after r n) None edits edit
+
+-- the rows of a realm after one more edit
+count_push : (edits : List Edit) (edit : Edit) (r : List ℕ) → row_count (edits ++ edit ∷ []) r ≡ count_after r (row_count edits r) edit
+unfolding row_count
+count_push edits edit r = fold_push (count_after r) 0 edits edit
+
+last_from_push : (r n : List ℕ) (number last : ℕ) (edits : List Edit) (edit : Edit) → last_from r n number last (edits ++ edit ∷ []) ≡ cond (is_place r n (realm_of edit) (name_of edit)) (number + length edits + 1) (last_from r n number last edits)
+last_from_push r n number last [] edit =
+    let same : number + 1 ≡ number + 0 + 1 = omega arith in
+    ap (λ (k : ℕ). cond (is_place r n (realm_of edit) (name_of edit)) k last) same
+last_from_push r n number last (e ∷ edits) edit =
+    let next = cond (is_place r n (realm_of e) (name_of e)) (number + 1) last in
+    let same : number + 1 + length edits + 1 ≡ number + length (e ∷ edits) + 1 = omega arith in
+    last_from_push r n (number + 1) next edits edit
+    ∙ ap (λ (k : ℕ). cond (is_place r n (realm_of edit) (name_of edit)) k (last_from r n (number + 1) next edits)) same
+
+-- the number of the last edit of a name after one more edit
+last_push : (edits : List Edit) (edit : Edit) (r n : List ℕ) → last_touch (edits ++ edit ∷ []) r n ≡ cond (is_place r n (realm_of edit) (name_of edit)) (length edits + 1) (last_touch edits r n)
+unfolding last_touch
+last_push edits edit r n =
+    let same : 0 + length edits + 1 ≡ length edits + 1 = omega arith in
+    last_from_push r n 0 0 edits edit ∙ ap (λ (k : ℕ). cond (is_place r n (realm_of edit) (name_of edit)) k (last_from r n 0 0 edits)) same
+
+-- tables that say what a journal says, one edit on
+pub kept_step : (old new : List Table) (edits : List Edit) (edit : Edit) → AreKept old edits → IsStep old new edit (length edits + 1) → AreKept new (edits ++ edit ∷ [])
+kept_step old new edits edit kept step = record {
+  rows = λ r n. step.rows r n ∙ (ap (λ (x : Option Identity). row_after r n x edit) (kept.rows r n) ∙ sym (row_push edits edit r n));
+  lasts = λ r n. step.lasts r n ∙ (ap (λ (x : ℕ). cond (is_place r n (realm_of edit) (name_of edit)) (length edits + 1) x) (kept.lasts r n) ∙ sym (last_push edits edit r n));
+  counts = λ r. step.counts r ∙ (ap (λ (x : ℕ). count_after r x edit) (kept.counts r) ∙ sym (count_push edits edit r));
+}
+
+kept_same : (old new : List Table) (edits : List Edit) → AreKept old edits → IsSame old new → AreKept new edits
+kept_same old new edits kept same = record {
+  rows = λ r n. same.rows r n ∙ kept.rows r n;
+  lasts = λ r n. same.lasts r n ∙ kept.lasts r n;
+  counts = λ r. same.counts r ∙ kept.counts r;
+}
+
+-- two ways to cut a list that has one more at its end
+cut_last : (xs front back : List Edit) (x edit : Edit) → xs ++ x ∷ [] ≡ front ++ edit ∷ back → ((rest : List Edit) × (xs ≡ front ++ edit ∷ rest)) ⊎ ((front ≡ xs) × (edit ≡ x))
+cut_last [] [] back x edit is = inr (refl, cc)
+cut_last [] (y ∷ []) back x edit is = absurd cc
+cut_last [] (y ∷ z ∷ front) back x edit is = absurd cc
+cut_last (x' ∷ xs) [] back x edit is = inl (xs, cc)
+cut_last (x' ∷ xs) (y ∷ front) back x edit is =
+    let same : x' ≡ y = cc in
+    let rest : xs ++ x ∷ [] ≡ front ++ edit ∷ back = cc in
+    ⊎_elim
+    (λ (h : (rest : List Edit) × (xs ≡ front ++ edit ∷ rest)). inl (h.0, rw (same, h.1) refl))
+    (λ (h : (front ≡ xs) × (edit ≡ x)). inr (rw (same, h.0) refl, h.1))
+    (cut_last xs front back x edit rest)
+
+-- an edit without a fault makes a journal longer
+accepted_push : (realms : List (List ℕ × RealmClass)) (limit : ℕ) (edits : List Edit) (edit : Edit) → IsAccepted realms limit edits → fault realms limit edits edit ≡ None → IsAccepted realms limit (edits ++ edit ∷ [])
+accepted_push realms limit edits edit accepted none front e back is = ⊎_elim
+    (λ (h : (rest : List Edit) × (edits ≡ front ++ e ∷ rest)). accepted front e h.0 h.1)
+    (λ (h : (front ≡ edits) × (e ≡ edit)). rw (h.0, h.1) none)
+    (cut_last edits front back edit e is)
+
+-- no edits are a journal of accepted edits
+accepted_none : (realms : List (List ℕ × RealmClass)) (limit : ℕ) → IsAccepted realms limit []
+accepted_none realms limit [] edit back is = absurd cc
+accepted_none realms limit (x ∷ front) edit back is = absurd cc
+
+below_limit : (b : Bool) (f : EditFault) (other : Option EditFault) → cond b (Some f) other ≡ None → b ≡ false
+below_limit true f other h = absurd cc
+below_limit false f other h = refl
+
+-- an edit without a fault finds room
+pub room_of : (realms : List (List ℕ × RealmClass)) (limit : ℕ) (edits : List Edit) (edit : Edit) → fault realms limit edits edit ≡ None → length edits < limit
+unfolding fault
+room_of realms limit edits edit none = leb-false limit (length edits) (below_limit (leb limit (length edits)) _ _ none)
+
+-- the tables and the journal, one edit on
+pub record_step : (limit : ℕ) (old new : List Table) (edits : List Edit) (edit : Edit) → IsRecord limit old edits → fault (realms_of old) limit edits edit ≡ None → IsStep old new edit (length edits + 1) → IsRecord limit new (edits ++ edit ∷ [])
+record_step limit old new edits edit is none step =
+    let room = room_of (realms_of old) limit edits edit none in
+    record {
+      few = is.few;
+      within = omega (arith, length_push edits edit, room);
+      apart = subst (λ (realms : List (List ℕ × RealmClass)). are_apart realms ≡ true) (sym step.realms) is.apart;
+      accepted = subst (λ (realms : List (List ℕ × RealmClass)). IsAccepted realms limit (edits ++ edit ∷ [])) (sym step.realms) (accepted_push (realms_of old) limit edits edit is.accepted none);
+      kept = kept_step old new edits edit is.kept step;
+    }
+
+-- the tables and the journal where nothing is changed
+pub record_same : (limit : ℕ) (old new : List Table) (edits : List Edit) → IsRecord limit old edits → IsSame old new → IsRecord limit new edits
+record_same limit old new edits is same = record {
+  few = is.few;
+  within = is.within;
+  apart = subst (λ (realms : List (List ℕ × RealmClass)). are_apart realms ≡ true) (sym same.realms) is.apart;
+  accepted = subst (λ (realms : List (List ℕ × RealmClass)). IsAccepted realms limit edits) (sym same.realms) is.accepted;
+  kept = kept_same old new edits is.kept same;
+}
+
+class_in : (ts : List Table) (r : List ℕ) → class_of (realms_of ts) r ≡ option_map (λ (t : Table). t.class) (table_of ts r)
+class_in [] r = refl
+class_in (t ∷ ts) r = by_test (bytes_eq t.name r) (class_in ts r)
+  where
+    by_test : (b : Bool) → class_of (realms_of ts) r ≡ option_map (λ (x : Table). x.class) (table_of ts r) → cond b (Some t.class) (class_of (realms_of ts) r) ≡ option_map (λ (x : Table). x.class) (cond b (Some t) (table_of ts r))
+    by_test true rest = refl
+    by_test false rest = rest
+
+own_kept : (class : RealmClass) (t : Table) (edits : List Edit) (edit : Edit) → t.rows ≡ row_count edits (realm_of edit) → entry_row (entry_in (Some t) (name_of edit)) ≡ row edits (realm_of edit) (name_of edit) → table_fault class t edit ≡ class_fault (Some class) edits edit
+own_kept Composite t edits edit counts rows = refl
+own_kept Modifiable t edits edit counts rows = ap (λ (k : ℕ). row_fault k (entry_row (entry_in (Some t) (name_of edit))) edit) counts ∙ ap (λ (x : Option Identity). row_fault (row_count edits (realm_of edit)) x edit) rows
+
+-- what is kept refuses what the journal refuses, and for the same reason
+pub fault_kept : (limit : ℕ) (ts : List Table) (edits : List Edit) (edit : Edit) → AreKept ts edits → cond (leb limit (length edits)) (Some (JournalFull limit)) (kept_fault (table_of ts (realm_of edit)) edit) ≡ fault (realms_of ts) limit edits edit
+unfolding fault
+fault_kept limit ts edits edit kept =
+    ap (λ (f : Option EditFault). cond (leb limit (length edits)) (Some (JournalFull limit)) f) (by_table (table_of ts (realm_of edit)) refl ∙ ap (λ (c : Option RealmClass). class_fault c edits edit) (sym (class_in ts (realm_of edit))))
+  where
+    by_table : (found : Option Table) → table_of ts (realm_of edit) ≡ found → kept_fault found edit ≡ class_fault (option_map (λ (t : Table). t.class) found) edits edit
+    by_table None is = refl
+    by_table (Some t) is = own_kept t.class t edits edit
+        (ap rows_in (sym is) ∙ kept.counts (realm_of edit))
+        (ap (λ (x : Option Table). entry_row (entry_in x (name_of edit))) (sym is) ∙ kept.rows (realm_of edit) (name_of edit))
+
+-- the fault that is found by what is kept is that of the journal
+pub fault_found : (limit made : ℕ) (seen ts : List Table) (edits : List Edit) (edit : Edit) (found : Option EditFault) → made ≡ length edits → seen ≡ ts → AreKept ts edits → found ≡ cond (leb limit made) (Some (JournalFull limit)) (kept_fault (table_of seen (realm_of edit)) edit) → fault (realms_of ts) limit edits edit ≡ found
+fault_found limit made seen ts edits edit found count same kept is = sym (
+    is
+    ∙ ap (λ (k : ℕ). cond (leb limit k) (Some (JournalFull limit)) (kept_fault (table_of seen (realm_of edit)) edit)) count
+    ∙ ap (λ (xs : List Table). cond (leb limit (length edits)) (Some (JournalFull limit)) (kept_fault (table_of xs (realm_of edit)) edit)) same
+    ∙ fault_kept limit ts edits edit kept)
+
+no_entry : (ts : List Table) (r n : List ℕ) → AreEmpty ts → entry_in (table_of ts r) n ≡ None
+no_entry [] r n h = refl
+no_entry (t ∷ ts) r n h = by_test (bytes_eq t.name r) (no_entry ts r n h.1)
+  where
+    by_test : (b : Bool) → entry_in (table_of ts r) n ≡ None → entry_in (cond b (Some t) (table_of ts r)) n ≡ None
+    by_test true rest = ap (lookup (is_at (name_cmp n))) h.0.0
+    by_test false rest = rest
+
+no_rows : (ts : List Table) (r : List ℕ) → AreEmpty ts → count_of ts r ≡ 0
+no_rows [] r h = refl
+no_rows (t ∷ ts) r h = by_test (bytes_eq t.name r) (no_rows ts r h.1)
+  where
+    by_test : (b : Bool) → count_of ts r ≡ 0 → rows_in (cond b (Some t) (table_of ts r)) ≡ 0
+    by_test true rest = h.0.1
+    by_test false rest = rest
+
+-- empty tables are what no edits make
+pub kept_none : (ts : List Table) → AreEmpty ts → AreKept ts []
+unfolding row row_count last_touch
+kept_none ts h = record {
+  rows = λ r n. ap entry_row (no_entry ts r n h);
+  lasts = λ r n. ap entry_last (no_entry ts r n h);
+  counts = λ r. no_rows ts r h;
+}
+
+-- tables without edits
+pub record_none : (limit : ℕ) (ts : List Table) (realms : List (List ℕ × RealmClass)) → limit ≤ 131072 → are_apart realms ≡ true → realms_of ts ≡ realms → AreEmpty ts → IsRecord limit ts []
+record_none limit ts realms few apart same empty = record {
+  few = few;
+  within = omega arith;
+  apart = subst (λ (xs : List (List ℕ × RealmClass)). are_apart xs ≡ true) (sym same) apart;
+  accepted = accepted_none (realms_of ts) limit;
+  kept = kept_none ts empty;
+}

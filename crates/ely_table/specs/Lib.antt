@@ -1,0 +1,4 @@
+pub mod Faults
+pub mod Touching
+pub mod Entries
+pub mod Kept
