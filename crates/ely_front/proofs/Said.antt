@@ -31,7 +31,7 @@ use Rattle.ely_front.specs.Heard.{heard}
 use Rattle.ely_front.specs.Endings.{Lasts, Stops, bytes_limit_text}
 
 -- These lines were answered, the bytes so far are they and what is held, and the counter rose by their price at most.
-pub record Said (start : List ℕ) (base : ℕ) (left_old left held_old held : Option (List ℕ)) (reader : Reader) (replay : Replay) (paid_old paid : ℕ) : Type 0 where
+pub record Said (start : List ℕ) (base : ℕ) (left_old left held_old held : Option (List ℕ)) (reader : Reader) (replay : Replay) (paid_old paid_now : ℕ) : Type 0 where
   pub gave : List ℕ
   pub said : List (List ℕ)
   pub took : Consumes left_old left gave
@@ -41,7 +41,7 @@ pub record Said (start : List ℕ) (base : ℕ) (left_old left held_old held : O
   pub wrote : Appends held_old held (text_of (script_of said))
   pub after : IsAfter replay (script_of said)
   pub short : length said ≤ reader.given
-  pub paid : paid ≤ paid_old + price_of (script_of said)
+  pub paid : paid_now ≤ paid_old + price_of (script_of said)
 
 -- few lines leave room for one more
 pub has_room : (r : Replay) (lines : List Line) → IsAfter r lines → length lines ≤ 2 ^ 40 → HasRoom r

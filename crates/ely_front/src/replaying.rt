@@ -1,6 +1,6 @@
 //! The lines of a script behind its first line, answered one by one as they are read.
 
-ghost use Rattle.std.specs.Prelude.{◌≡◌, ◌+◌, ◌≤◌, ◌++◌, ℕ, List, None, length, IfOk, OnOk};
+ghost use Rattle.std.specs.Prelude.{◌≡◌, ◌+◌, ◌≤◌, ◌++◌, ℕ, List, [], None, length, IfOk, OnOk};
 ghost use Rattle.std.specs.Io.KnownBytes.{Consumes, Appends};
 ghost use Rattle.ely_script.specs.Reading.{Line as ScriptLine, read_of};
 ghost use Rattle.ely_io.specs.Causes.{Rose, AppendsFront};
@@ -80,9 +80,10 @@ pub(crate) fn stop<K: Sink>(sink: &mut K, refused: Refused<LineFault>) -> Ending
     }
 }
 
-/// Answers each line that is left, before the next is read.
+/// Answers each line that is left, before the next is read, with a replay that has answered none.
 pub(crate) fn replay_lines<S: Source, K: Sink, L: Ledger>(
     alloc: Global,
+    mut replay: Replay,
     reader: &mut LineReader,
     source: &mut S,
     sink: &mut K,
@@ -90,16 +91,13 @@ pub(crate) fn replay_lines<S: Source, K: Sink, L: Ledger>(
 ) -> Ending
     requires mark { reader.old.mark ≡ None }
     requires counts { Counts reader.old }
+    requires first { IsAfter replay [] }
     ensures ends { (gave : List ℕ) × Consumes (S.left source.old) (S.left source.new) gave
         × Lasts (reader.old.held ++ gave) (reader.old.taken + length gave) (S.left source.new) (K.held sink.old) (K.held sink.new) steps.old steps.new result }
     ensures read { result ≡ Ending.Read → Rose (S.faults source.old) (S.faults source.new) }
     ensures write { result ≡ Ending.Write → Rose (K.faults sink.old) (K.faults sink.new) }
     ensures later { S.faults source.old ≤ S.faults source.new }
 {
-    let mut replay = match Replay::new(alloc) {
-        Ok(replay) => replay,
-        Err(_) => return Ending::NoMemory,
-    };
     loop {
         let line = match reader.next(alloc, source, LINE_LIMIT) {
             Ok(line) => line,

@@ -9,6 +9,7 @@ ghost use Rattle.ely_front.specs.Endings.{Ends};
 ghost use Rattle.ely_front.specs.FirstLines.{judged, Refuses};
 
 use crate::ending::Ending;
+use crate::replay::Replay;
 use crate::replaying::{replay_lines, stop};
 use ely_hash::Steps;
 use ely_io::{Line, LineReader, Sink, Source, write_all};
@@ -96,7 +97,11 @@ pub(crate) fn replay_script<S: Source, K: Sink, L: Ledger>(
             if reader.ended() {
                 return Ending::Done;
             }
-            replay_lines(alloc, &mut reader, source, sink, steps)
+            let replay = match Replay::new(alloc) {
+                Ok(replay) => replay,
+                Err(_) => return Ending::NoMemory,
+            };
+            replay_lines(alloc, replay, &mut reader, source, sink, steps)
         }
     }
 }

@@ -1,5 +1,5 @@
 -- What a list of edits makes of an identity, and which edits are refused.
-use Rattle.std.specs.Prelude.{ℕ, ◌≤◌, ◌+◌, ◌-◌, ◌&&◌, ◌||◌, Bool, if◌then◌else◌, nat_le, nat_lt, List, [], ◌∷◌, ◌++◌, length, fold, Option, Some, None, is_some}
+use Rattle.std.specs.Prelude.{ℕ, ◌≤◌, ◌&&◌, ◌||◌, Bool, if◌then◌else◌, nat_le, nat_lt, List, [], ◌∷◌, ◌++◌, length, fold, Option, Some, None, is_some}
 use Rattle.std.specs.Option.{option_map}
 use Rattle.std.specs.Ordering.{nat_cmp}
 use Rattle.std.specs.declared.cmp.Ordering.{Ordering}
@@ -112,16 +112,6 @@ row_after r n row edit = if is_place r n (realm_of edit) (name_of edit) then cha
 -- the row that the edits made of n in r
 unfoldable pub row : List Edit → List ℕ → List ℕ → Option Identity
 row edits r n = fold (row_after r n) None edits
-
--- how many rows the realm has after an edit that was accepted
-abbrev pub count_after : List ℕ → ℕ → Edit → ℕ
-count_after r count (Add realm name) = if bytes_eq realm r then count + 1 else count
-count_after r count (Remove realm name) = if bytes_eq realm r then count - 1 else count
-count_after r count _ = count
-
--- how many rows the edits made in r, each of which was accepted
-unfoldable pub row_count : List Edit → List ℕ → ℕ
-row_count edits r = fold (count_after r) 0 edits
 
 -- why an edit of an identity that is there is refused
 abbrev pub fault_there : Identity → Edit → Option EditFault

@@ -1,6 +1,6 @@
 //! All realms and the journal: how a realm is found in them, and how an edit is made in all of them or in none.
 
-ghost use Rattle.std.specs.Prelude.{◌≡◌, ℕ, ◌+◌, ◌<◌, ◌≤◌, ◌^◌, List, [], ◌∷◌, ◌++◌, length, nat_lt, if◌then◌else◌, nat_le, vec_len, Some, None, IfOk, OnOk, OnErr, IsSome, find, position};
+ghost use Rattle.std.specs.Prelude.{◌≡◌, ◌+◌, ◌<◌, ◌^◌, [], ◌∷◌, ◌++◌, length, nat_lt, nat_le, if◌then◌else◌, position, vec_len, IfOk, OnOk, OnErr};
 ghost use Rattle.std.specs.List.{list_any};
 ghost use Rattle.std.specs.Vec.{vec_capacity};
 ghost use Rattle.std.specs.Option.{option_copied};

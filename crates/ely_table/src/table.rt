@@ -1,9 +1,9 @@
 //! What is kept of one realm: the row of each of its names, and the number of the last edit of each.
 
-ghost use Rattle.std.specs.Prelude.{◌≡◌, ℕ, ◌+◌, ◌<◌, ◌^◌, None, IfOk, OnOk, OnErr};
+ghost use Rattle.std.specs.Prelude.{◌≡◌, ◌<◌, ◌^◌, IfOk, OnOk, OnErr};
 ghost use Rattle.std.specs.Option.{option_copied};
-ghost use Rattle.std.specs.BTreeMap.{get, Updates, IsUnchanged};
-ghost use Rattle.ely_row.specs.Rows.{name_cmp, name_of, changed, row_fault, fault_there};
+ghost use Rattle.std.specs.BTreeMap.{get};
+ghost use Rattle.ely_row.specs.Rows.{name_cmp, name_of, row_fault};
 ghost use Rattle.ely_table.specs.Entries.{entry_row, rows_after, kept_fault, IsTaken, IsSameTable};
 
 use crate::class::RealmClass;

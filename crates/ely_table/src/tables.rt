@@ -1,9 +1,8 @@
 //! The tables that the accepted edits made, with the journal of those edits.
 
-ghost use Rattle.std.specs.Prelude.{◌≡◌, ℕ, ◌+◌, ◌≤◌, IsTrue, List, [], length, Option, None, IfOk, IfErr, OnOk, OnErr};
-ghost use Rattle.std.specs.Option.{option_copied};
-ghost use Rattle.ely_row.specs.Rows.{Identity, row};
-ghost use Rattle.ely_table.specs.Faults.{Recorded, are_apart, fault, IsAccepted, IsRefusal, recorded};
+ghost use Rattle.std.specs.Prelude.{◌≡◌, ◌+◌, ◌≤◌, IsTrue, [], length, IfOk, IfErr, OnOk, OnErr};
+ghost use Rattle.ely_row.specs.Rows.{row};
+ghost use Rattle.ely_table.specs.Faults.{are_apart, fault, IsAccepted, IsRefusal, recorded};
 ghost use Rattle.ely_table.specs.Touching.{touched_since};
 ghost use Rattle.ely_table.specs.Kept.{realms_of, AreEmpty};
 
@@ -55,7 +54,7 @@ fn empty_tables(alloc: Global, realms: Vec<(Name, RealmClass)>) -> Result<Vec<Ta
 }
 
 impl Tables {
-    /// Tables of these realms without edits, whose journal takes this many. The names of the realms differ.
+    /// Tables of these realms, whose names differ, without edits. Their journal takes this many.
     pub fn new(
         alloc: Global,
         realms: Vec<(Name, RealmClass)>,

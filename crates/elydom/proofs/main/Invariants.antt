@@ -2,4 +2,4 @@ use Rattle.elydom.proofs.main.Given as goal
 
 -- the counter's ledger is the one that was opened for it
 abbrev pub ghosts-counted : goal.ghosts-counted
-ghosts-counted g a = record { name = a.blank.name; parts = a.blank.parts }
+ghosts-counted a = record { name = a.blank.name; parts = a.blank.parts }

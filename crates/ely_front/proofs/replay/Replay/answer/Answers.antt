@@ -1,11 +1,12 @@
 use Rattle.ely_front.specs.declared.replay.Replay.{Replay}
 use Rattle.ely_front.proofs.Afters.{IsAnswered, said_so, after_so, price_so}
+use Rattle.ely_front.proofs.replay.Replay.answer.Given.{Over}
 use Rattle.ely_front.proofs.replay.Replay.answer.Goals as goal
 
-new : goal.After-drop-entries-2 → Replay
+new : (g : Over) → goal.After-drop-entries-2 g → Replay
 new g c = record { domain = c.run_line.new.domain; counts = c.next_line.new.counts; number = c.in_ok-self.field-0 }
 
-answered : (c : goal.After-drop-entries-2) → IsAnswered c.args.self.now (new g c) c.args.line.now c.in_ok-number.number c.in_ok-entries.entries.items c.push_entries.new.out.items c.args.steps.now c.run_line.new.steps
+answered : (g : Over) (c : goal.After-drop-entries-2 g) → IsAnswered c.args.self.now (new g c) c.args.line.now c.in_ok-number.number c.in_ok-entries.entries.items c.push_entries.new.out.items c.args.steps.now c.run_line.new.steps
 unfolding new
 answered g c = record {
   entries_are = c.in_ok-entries.ensures.entries;
