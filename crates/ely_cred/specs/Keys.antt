@@ -3,6 +3,7 @@ use Rattle.std.specs.Prelude.{ℕ, ◌+◌, Bool, true, false, List, [], ◌∷�
 use Rattle.std.specs.Option.{option_map, option_and_then}
 use Rattle.sha1.specs.Sha1.{sha1}
 use Rattle.sha2.specs.Sha256.{sha256}
+use Rattle.ely_hash.specs.declared.derive.ScramKeys.{ScramKeys}
 use Rattle.ely_hash.specs.Formulas.{hi_of, stored_key_of, server_key_of}
 use Rattle.ely_row.specs.declared.cred.Credential.{Credential}
 use Rattle.ely_row.specs.declared.cred.Credential.TheVariants.{Clear, Scram1, Scram256, DigestMd5, DigestSha256}
@@ -38,19 +39,22 @@ derived_salt seed realm name = take 16 (sha256 (seed ++ 0 ∷ [] ++ codes "salt"
 abbrev pub salt_of : Derivation → List ℕ → List ℕ → List ℕ
 salt_of d realm name = unwrap_or d.salt (derived_salt d.seed realm name)
 
--- the key of a salted password, with the salt and the turns that made it, under a hash and the length of its block (RFC 5802 section 3)
-abbrev pub scram_key_by : (List ℕ → List ℕ) → ℕ → List ℕ → List ℕ → ℕ → ReadyKey
-scram_key_by digest block salted salt turns =
-    keys.Scram (record { stored = stored_key_of digest block salted; server = server_key_of digest block salted }) salt turns
+-- the keys of a salted password under a hash with blocks of that length (RFC 5802 section 3)
+abbrev pub scram_keys_by : (List ℕ → List ℕ) → ℕ → List ℕ → ScramKeys
+scram_keys_by digest block salted = record { stored = stored_key_of digest block salted; server = server_key_of digest block salted }
+
+-- the same under a hash with blocks of 64 bytes
+abbrev pub scram_keys : (List ℕ → List ℕ) → List ℕ → ScramKeys
+scram_keys digest salted = scram_keys_by digest 64 salted
 
 -- the key of a password that was salted before
 abbrev pub kept_key : (List ℕ → List ℕ) → SaltedPassword → ReadyKey
-kept_key digest s = scram_key_by digest 64 s.salted s.salt s.turns
+kept_key digest s = keys.Scram (scram_keys digest s.salted) s.salt s.turns
 
--- the key of a clear password, salted now, under a hash and the length of its block
+-- the key of a clear password, salted now, under a hash with blocks of that length (RFC 5802 section 3)
 abbrev pub salted_key_by : (List ℕ → List ℕ) → ℕ → Derivation → List ℕ → List ℕ → List ℕ → ReadyKey
 salted_key_by digest block d realm name password =
-    scram_key_by digest block (hi_of digest block password (salt_of d realm name) d.turns) (salt_of d realm name) d.turns
+    keys.Scram (scram_keys_by digest block (hi_of digest block password (salt_of d realm name) d.turns)) (salt_of d realm name) d.turns
 
 -- the same under a hash with blocks of 64 bytes
 abbrev pub salted_key : (List ℕ → List ℕ) → Derivation → List ℕ → List ℕ → List ℕ → ReadyKey

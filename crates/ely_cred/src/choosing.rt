@@ -40,8 +40,6 @@ pub(crate) fn chosen_entry(row: &Row, mech: Mech) -> Option<(u8, &StoredCred)>
 pub fn choose(row: &Row, mech: Mech) -> Option<u8>
     ensures { result ≡ option_map (λ p. p.0) (chosen mech row.now) }
 {
-    match chosen_entry(row, mech) {
-        None => None,
-        Some((slot, _)) => Some(slot),
-    }
+    let (slot, _) = chosen_entry(row, mech)?;
+    Some(slot)
 }

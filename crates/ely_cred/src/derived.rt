@@ -3,7 +3,7 @@
 ghost use Rattle.std.specs.Prelude.{◌≡◌, ℕ, ◌+◌, ◌≤◌, List, Some, IsTrue, IsSome, IfOk, OnOk};
 ghost use Rattle.std.specs.Option.{option_map};
 ghost use Rattle.ely_row.specs.Salts.{Derivation};
-ghost use Rattle.ely_cred.specs.Keys.{scram_key_by, salted_key_by, serves, chosen, key_of, keyed, ready_of, key_cost, ready_cost};
+ghost use Rattle.ely_cred.specs.Keys.{scram_keys_by, salted_key_by, serves, chosen, key_of, keyed, ready_of, key_cost, ready_cost};
 
 use crate::choosing::chosen_entry;
 use crate::key::{Ready, ReadyKey};
@@ -21,7 +21,7 @@ fn scram_key<H: HashAlg, L: Ledger>(
     turns: u32,
     steps: &mut Steps<L>,
 ) -> ReadyKey
-    ensures value { result ≡ scram_key_by H.digest H.BLOCK salted.now salt turns }
+    ensures value { result ≡ ReadyKey.Scram (scram_keys_by H.digest H.BLOCK salted.now) salt turns }
     ensures cost { steps.new ≡ steps.old + 2 }
 {
     ReadyKey::Scram {
@@ -37,7 +37,8 @@ fn kept_key<H: HashAlg, L: Ledger>(
     salted: &Salted,
     steps: &mut Steps<L>,
 ) -> Result<ReadyKey, NoMemory>
-    ensures value { IfOk result (λ key. key ≡ scram_key_by H.digest H.BLOCK salted.now.salted salted.now.salt salted.now.turns) }
+    ensures value { IfOk result (λ key. key
+        ≡ ReadyKey.Scram (scram_keys_by H.digest H.BLOCK salted.now.salted) salted.now.salt salted.now.turns) }
     ensures cost { OnOk result (steps.new ≡ steps.old + 2) }
     ensures least { steps.old ≤ steps.new }
     ensures most { steps.new ≤ steps.old + 2 }
@@ -55,7 +56,8 @@ fn salted_key<H: HashAlg, L: Ledger>(
     password: &Bytes,
     steps: &mut Steps<L>,
 ) -> Result<ReadyKey, NoMemory>
-    ensures value { IfOk result (λ key. key ≡ salted_key_by H.digest H.BLOCK params.now realm.now name.now password.now) }
+    ensures value { IfOk result (λ key. key
+        ≡ salted_key_by H.digest H.BLOCK params.now realm.now name.now password.now) }
     ensures cost { OnOk result (steps.new ≡ steps.old + params.now.turns + 2) }
     ensures least { steps.old ≤ steps.new }
     ensures most { steps.new ≤ steps.old + params.now.turns + 2 }
@@ -69,7 +71,8 @@ fn salted_key<H: HashAlg, L: Ledger>(
 /// The key of a credential for PLAIN: the credential itself.
 #[tactic(auto, unfolding(crate::specs::Keys::key_of))]
 fn plain_key(alloc: Global, cred: &StoredCred) -> Result<ReadyKey, NoMemory>
-    ensures { (d : Derivation) (realm name : List ℕ) → IfOk result (λ key. Some key ≡ key_of d realm name Mech.Plain cred.now) }
+    ensures { (d : Derivation) (realm name : List ℕ)
+        → IfOk result (λ key. Some key ≡ key_of d realm name Mech.Plain cred.now) }
 {
     match cred.credential() {
         Credential::Clear(password) => Ok(ReadyKey::Password(password.copy(alloc)?)),
@@ -130,7 +133,9 @@ fn ready_by<L: Ledger>(
     steps: &mut Steps<L>,
 ) -> Result<Ready, NoMemory>
     requires { IsTrue (serves mech cred.now) }
-    ensures value { IfOk result (λ ready. Some ready ≡ option_map (keyed params.now realm.now name.now mech cred.now) (key_of params.now realm.now name.now mech cred.now)) }
+    ensures value { IfOk result (λ ready. Some ready
+        ≡ option_map (keyed params.now realm.now name.now mech cred.now)
+        (key_of params.now realm.now name.now mech cred.now)) }
     ensures cost { OnOk result (steps.new ≡ steps.old + key_cost params.now.turns mech cred.now) }
     ensures least { steps.old ≤ steps.new }
     ensures most { steps.new ≤ steps.old + key_cost params.now.turns mech cred.now }

@@ -17,7 +17,8 @@ fn proves_salted<H: HashAlg, L: Ledger>(
     password: &[u8],
     steps: &mut Steps<L>,
 ) -> bool
-    ensures value { result ≡ bytes_eq (hi_of H.digest H.BLOCK password.now salted.now.salt salted.now.turns) salted.now.salted }
+    ensures value { result
+        ≡ bytes_eq (hi_of H.digest H.BLOCK password.now salted.now.salt salted.now.turns) salted.now.salted }
     ensures cost { steps.new ≡ steps.old + salted.now.turns }
 {
     let guessed = hi::<H, L>(password, salted.salt().bytes(), salted.turns(), steps);

@@ -51,7 +51,7 @@ impl Model for Ready {
 
 impl ReadyKey {
     /// An equal key.
-    pub fn copy(&self, alloc: Global) -> Result<ReadyKey, NoMemory>
+    fn copy(&self, alloc: Global) -> Result<ReadyKey, NoMemory>
         ensures { IfOk result (λ copy. copy ≡ self.now) }
     {
         match self {
@@ -107,7 +107,8 @@ impl Ready {
     /// The mechanism that it is for.
     pub fn mech(&self) -> Mech
         ensures value { result ≡ self.now.mech }
-        ensures derived { Some self.now.key ≡ key_of self.now.params self.now.realm self.now.name self.now.mech self.now.cred }
+        ensures derived { Some self.now.key
+            ≡ key_of self.now.params self.now.realm self.now.name self.now.mech self.now.cred }
     {
         self.mech
     }

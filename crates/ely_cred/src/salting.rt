@@ -8,7 +8,7 @@ use ely_hash::{HashAlg, Sha256Alg};
 use ely_row::Params;
 use std::alloc::Global;
 
-/// The salt of a place where none is given: no two places have one text, since a name has no NUL.
+/// The salt of a place where none is given. Under one seed no two places give one text, since a name has no NUL.
 #[tactic(auto, unfolding(crate::specs::Keys::derived_salt))]
 fn derived_salt(alloc: Global, seed: &[u8], realm: &Name, name: &Name) -> Result<Bytes, NoMemory>
     ensures { IfOk result (λ salt. salt ≡ derived_salt seed.now realm.now name.now) }

@@ -6,7 +6,7 @@ use Rattle.ely_script.specs.Words.{is_accepted}
 use Rattle.ely_domain.specs.Machine.{Machine, Given, step}
 use Rattle.ely_domain.specs.Lines.{Taken, Ran, taken, event_of, carried_after, after_first, run_words}
 use Rattle.ely_domain.specs.Replays.{Made, made_by, steps_of}
-use Rattle.ely_domain.specs.Costs.{step_cost, cost_from}
+use Rattle.ely_domain.specs.Costs.{cost_from}
 
 -- the steps that were made, and those that are made later
 steps_of-made : (actor n : ℕ) (ts : List Taken) (later : List Made) → steps_of (map (made_by actor n) ts ++ later) ≡ ts ++ steps_of later

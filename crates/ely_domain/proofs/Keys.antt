@@ -9,7 +9,7 @@ use Rattle.ely_row.specs.declared.mech.Mech.TheVariants as mechs
 use Rattle.ely_row.specs.Rows.{Identity}
 use Rattle.ely_row.specs.Salts.{Derivation, plain_derivation}
 use Rattle.ely_cred.specs.declared.key.ReadyKey.{ReadyKey}
-use Rattle.ely_cred.specs.Keys.{Keyed, chosen, key_of, keyed, ready_of}
+use Rattle.ely_cred.specs.Keys.{chosen, key_of, keyed, ready_of}
 use Rattle.ely_script.specs.declared.claim.Evidence.{Evidence}
 use Rattle.ely_script.specs.declared.word.StateWord.{StateWord}
 use Rattle.ely_script.specs.declared.word.StateWord.TheVariants as states

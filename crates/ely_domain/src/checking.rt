@@ -7,9 +7,7 @@ ghost use Rattle.ely_domain.specs.Machine.{is_carried, is_proved, checked_first,
 ghost use Rattle.ely_domain.specs.Costs.{carried_cost, check_cost, key_cost};
 ghost use Rattle.ely_domain.specs.Contexts.{login, logins, AreSound};
 
-use crate::context::{
-    Context, context_carried, context_in, context_of, set_evidence, set_state,
-};
+use crate::context::{Context, context_carried, context_in, context_of, set_evidence, set_state};
 use ely_base::{CtxId, Serial};
 use ely_cred::{Ready, guess};
 use ely_hash::Steps;

@@ -1,9 +1,9 @@
-use Rattle.std.proofs.Common.{◌≡◌, true, false, sym, ap, ◌∙◌, refl, None, ◌≤◌, ◌+◌, ℕ, subst}
-use Rattle.std.specs.Option.{option_map, option_and_then}
+use Rattle.std.proofs.Common.{◌≡◌, true, false, sym, ap, ◌∙◌, refl, None}
+use Rattle.std.specs.Option.{option_map}
 use Rattle.ely_script.specs.declared.outcome.Outcome.TheVariants as outcomes
 use Rattle.ely_domain.specs.Machine.{is_proved, verdict}
 use Rattle.ely_domain.specs.Costs.{key_cost, check_cost}
-use Rattle.ely_domain.specs.Contexts.{pinned, key_for}
+use Rattle.ely_domain.specs.Contexts.{pinned}
 use Rattle.ely_domain.proofs.Keys.{plain_key, verdict_is, check_cost_is, checking_has_key}
 use Rattle.ely_domain.proofs.checking.check2.Goals as goal
 

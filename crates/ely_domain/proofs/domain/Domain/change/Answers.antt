@@ -6,7 +6,7 @@ pub invariant_of-self : goal.invariant_of-self
 invariant_of-self c =
     let kept = c.self.invariant in
     elim c.match-apply.branch [
-      in-Ok w ↦ rw w.in-Ok.ensures.after (kept.0, kept.1, sound_push c.self.inside.tables.journal c.args.edit c.self.inside.contexts.items kept.2)
+      | in-Ok w ↦ rw w.in-Ok.ensures.after (kept.0, kept.1, sound_push c.self.inside.tables.journal c.args.edit c.self.inside.contexts.items kept.2)
       | in-Err-NoMemory w ↦ rw w.in-Err-NoMemory.ensures.err kept
       | in-Err-Fault w ↦ rw w.in-Err-Fault.ensures.err kept
     ]
