@@ -1,8 +1,12 @@
-ghost use Rattle.std.specs.Prelude.{◌≡◌, ◌<◌};
+ghost use Rattle.std.specs.Prelude.{◌≡◌, ◌-◌, ◌<◌, ◌^◌};
 
 use crate::run;
+use ely_base::{Name, NoMemory};
+use ely_domain::{Domain, Event};
 use ely_hash::Steps;
 use ely_io::{Failed, MemSink, MemSource, Sink, Source};
+use ely_row::{Edit, EditFault};
+use ely_script::Outcome;
 use std::alloc::Global;
 use std::marker::Brand;
 use std::sync::ledger::{Blank, Ledger};
@@ -248,5 +252,60 @@ fn a_failing_sink_holds_a_front(rt: HostRuntime) -> Result<(), Fail> {
         broken_sink(&rt, vec![in rt.alloc(); 0]?)?.as_slice(),
         b"5".as_slice()
     );
+    Ok(())
+}
+
+fn name(alloc: Global, text: &[u8]) -> Result<Name, NoMemory> {
+    match Name::read(alloc, text) {
+        Ok(name) => Ok(name),
+        Err(_) => Err(NoMemory),
+    }
+}
+
+/// What a domain answers to a new name: the version, or 100 and the limit of its journal.
+fn added<L: Ledger>(
+    alloc: Global,
+    domain: &mut Domain,
+    user: &[u8],
+    steps: &mut Steps<L>,
+) -> Result<u64, NoMemory>
+    requires { domain.old.machine.opened < 2 ^ 64 - 1 }
+{
+    let edit = Edit::Add {
+        realm: name(alloc, b"main")?,
+        name: name(alloc, user)?,
+    };
+    match domain.step(alloc, Event::Change { edit }, steps)?.outcome {
+        Outcome::Changed(version) => Ok(version.0),
+        Outcome::Refused(EditFault::JournalFull(limit)) => Ok(100 + u64::from(limit)),
+        _ => Err(NoMemory),
+    }
+}
+
+fn counted_adds<L: Ledger>(blank: Blank, alloc: Global) -> Result<Vec<u64>, NoMemory>
+    requires name { blank.name ≡ L.name }
+    requires parts { blank.parts ≡ L.parts }
+    requires some { 0 < blank.parts }
+{
+    let mut steps = Steps::<L>::of(blank);
+    let mut domain = Domain::new(alloc, 2)?;
+    let mut answers = Vec::new(alloc);
+    for user in [b"a", b"b", b"c"] {
+        if domain.opened() == u64::MAX {
+            return Err(NoMemory);
+        }
+        answers.push(added(alloc, &mut domain, user, &mut steps)?)?;
+    }
+    Ok(answers)
+}
+
+/// What a domain whose journal takes two edits answers to three names.
+fn adds(alloc: Global) -> Result<Vec<u64>, NoMemory> {
+    counted_adds::<Brand>(Blank::new(1), alloc)
+}
+
+#[test]
+fn a_full_journal_takes_no_edit(rt: HostRuntime) -> Result<(), Fail> {
+    assert_eq!(rt; adds(rt.alloc())?.as_slice(), [1, 2, 102].as_slice());
     Ok(())
 }
