@@ -1,5 +1,5 @@
 -- Cutting bytes at the first place of a byte.
-use Rattle.std.proofs.Common.{◌≡◌, ℕ, ◌+◌, ◌-◌, ◌<◌, ◌≤◌, Bool, true, false, List, [], ◌∷◌, length, take, drop, Some, None, refl, sym, ap, ◌∙◌, arith, cond, eqb, ltb, position, take_all}
+use Rattle.std.proofs.Common.{◌≡◌, ℕ, ◌+◌, ◌-◌, ◌<◌, ◌≤◌, Bool, true, false, List, [], ◌∷◌, length, take, drop, get_or, Some, None, refl, sym, ap, ◌∙◌, arith, cond, eqb, ltb, position, take_all}
 use Rattle.std.proofs.lemmas.Bool.Decides.{nat_tests}
 use Rattle.std.proofs.lemmas.Option.{same_Some}
 use Rattle.std.proofs.lemmas.List.{take_rest}
@@ -17,11 +17,15 @@ none_is : (b : Bool) (n : ℕ) → cond b (Some n) None ≡ None → b ≡ false
 none_is true n h = absurd cc
 none_is false n h = refl
 
-pub cut_none : (mark : ℕ) (bytes : List ℕ) → position (λ b. eqb b mark) bytes ≡ None → parts_at mark bytes ≡ bytes ∷ []
-cut_none mark bytes h =
+-- no byte is that one
+pub none_before : (mark : ℕ) (bytes : List ℕ) → position (λ b. eqb b mark) bytes ≡ None → (k d : ℕ) → k < length bytes → eqb (get_or bytes k d) mark ≡ false
+none_before mark bytes h k d within =
     let p : ℕ → Bool = λ b. eqb b mark in
     let past = none_is (ltb (position_or_len p bytes) (length bytes)) (position_or_len p bytes) h in
-    slice_split_none p bytes (λ k d within. fails_before_first p bytes k d (grind (arith, nat_tests)))
+    fails_before_first p bytes k d (grind (arith, nat_tests))
+
+pub cut_none : (mark : ℕ) (bytes : List ℕ) → position (λ b. eqb b mark) bytes ≡ None → parts_at mark bytes ≡ bytes ∷ []
+cut_none mark bytes h = slice_split_none (λ b. eqb b mark) bytes (none_before mark bytes h)
 
 pub cut_some : (mark : ℕ) (bytes : List ℕ) (place : ℕ) → position (λ b. eqb b mark) bytes ≡ Some place → parts_at mark bytes ≡ take place bytes ∷ parts_at mark (take (length bytes - (place + 1)) (drop (place + 1) bytes))
 cut_some mark bytes place h =

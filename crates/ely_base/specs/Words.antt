@@ -1,6 +1,8 @@
 -- Coded words: `%` and two hexadecimal digits stand for one byte, and every other byte for itself.
 use Rattle.std.specs.Prelude.{ℕ, ◌+◌, ◌*◌, ◌/◌, ◌%◌, ◌==◌, ◌||◌, Bool, nat_le, if◌then◌else◌, List, [], ◌∷◌, ◌++◌, slice_index, Option, Some, None, option_and_then, Result, Ok, Err}
 use Rattle.std.specs.Option.{option_map}
+use Rattle.ely_base.specs.Names.{name_of}
+use Rattle.ely_base.specs.Refused.{◌>>=◌, refused_as}
 use Rattle.hex.specs.Hex.{hex_digit_value, upper_digits}
 use Rattle.ely_base.specs.declared.texts.TextFault.{TextFault}
 use Rattle.ely_base.specs.declared.texts.TextFault.TheVariants.{Bad}
@@ -25,6 +27,10 @@ or_bad (Some bytes) = Ok bytes
 -- what a word is read as
 abbrev pub read_word_of : List ℕ → Result (List ℕ) TextFault
 read_word_of text = or_bad (word_of text)
+
+-- what a word is read as where it should stand for a name
+abbrev pub name_word_of : List ℕ → Result (List ℕ) TextFault
+name_word_of text = read_word_of text >>= λ bytes. refused_as (λ f. Bad) (name_of bytes)
 
 -- the bytes that are written as codes
 abbrev pub is_special : ℕ → Bool

@@ -35,6 +35,13 @@ impl Bytes {
         })
     }
 
+    /// The list, given up. It takes no memory.
+    pub fn into_list(self) -> Vec<u8>
+        ensures { result.items ≡ self }
+    {
+        self.list
+    }
+
     /// The bytes.
     pub fn bytes(&self) -> &[u8]
         ensures { result.now ≡ self.now }
@@ -47,5 +54,15 @@ impl Bytes {
         ensures { IfOk result (λ copy. copy ≡ self.now) }
     {
         Bytes::copy_of(alloc, self.bytes())
+    }
+
+    /// Equal bytes, where there are some.
+    pub fn copy_option(alloc: Global, bytes: &Option<Bytes>) -> Result<Option<Bytes>, NoMemory>
+        ensures { IfOk result (λ copy. copy ≡ bytes.now) }
+    {
+        match bytes {
+            None => Ok(None),
+            Some(bytes) => Ok(Some(bytes.copy(alloc)?)),
+        }
     }
 }

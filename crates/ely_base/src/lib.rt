@@ -1,4 +1,5 @@
-//! Names, bytes, numbers and texts, and the answer of a call that takes memory. It stands on `base64` and `hex` alone.
+//! Names, bytes, numbers and texts, and the answer of a call that takes memory. It alone names the kit's `base64`, `hex` and
+//! `itoa`.
 #![tactic(auto)]
 
 mod bytes;
@@ -8,6 +9,7 @@ mod items;
 mod name;
 mod number;
 mod parts;
+mod printable;
 mod refused;
 mod texts;
 mod word;
@@ -15,12 +17,13 @@ mod word;
 pub use bytes::Bytes;
 pub use ids::{CtxId, Serial, Version};
 pub use items::Items;
-pub use name::{Name, NameFault, name_fault};
-pub use number::read_number;
-pub use parts::{count_of, cut_at, text_len};
-pub use refused::{NoMemory, Refused};
-pub use texts::{TextFault, read_base64, read_hex, write_base64};
-pub use word::{read_word, write_word};
+pub use name::{Name, NameFault, has_barred, name_fault};
+pub use number::{push_number, read_number};
+pub use parts::{count_of, cut_at, first_offset, text_len};
+pub use printable::{are_printable_but, is_printable_but};
+pub use refused::{NoMemory, Refused, or_fault, or_no_memory, refused_as};
+pub use texts::{TextFault, is_base64, push_base64, read_base64, read_hex, write_base64};
+pub use word::{push_word, read_word, write_word};
 
 #[cfg(test)]
 mod tests;

@@ -1,6 +1,7 @@
 //! Names: 1 to 255 bytes of UTF-8 (RFC 3629) without NUL and LF, and the first fault of other bytes.
 
 ghost use Rattle.std.specs.Prelude.{◌≡◌, ℕ, List, IfOk, position};
+ghost use Rattle.std.specs.List.{list_any};
 ghost use Rattle.std.specs.Str.{bytes_eq};
 ghost use Rattle.ely_base.specs.Refused.{Gives};
 ghost use Rattle.ely_base.specs.Names.{IsName, is_barred, name_fault, name_of};
@@ -17,9 +18,9 @@ pub enum NameFault {
     Empty,
     /// The length, above 255.
     Long(usize),
-    /// The length of the longest front that is UTF-8.
+    /// The length of the longest prefix that is UTF-8.
     NotText(usize),
-    /// The place of the first NUL or LF.
+    /// The offset of the first NUL or LF.
     Barred(usize),
 }
 
@@ -41,7 +42,14 @@ impl Model for Name {
     ghost invariant = { λ n. IsName n.list.items };
 }
 
-/// The place of the first NUL or LF.
+/// Whether there is a NUL or an LF.
+pub fn has_barred(bytes: &[u8]) -> bool
+    ensures { result ≡ list_any is_barred bytes.now }
+{
+    bytes.iter().any(|b| *b == 0 || *b == 10)
+}
+
+/// The offset of the first NUL or LF.
 fn first_barred(bytes: &[u8]) -> Option<usize>
     ensures { result ≡ position is_barred bytes.now }
 {
@@ -64,7 +72,7 @@ pub fn name_fault(bytes: &[u8]) -> Option<NameFault>
     }
     match first_barred(bytes) {
         None => None,
-        Some(place) => Some(NameFault::Barred(place)),
+        Some(offset) => Some(NameFault::Barred(offset)),
     }
 }
 
@@ -79,6 +87,16 @@ impl Name {
         Ok(Name {
             list: Vec::from_slice(alloc, bytes)?,
         })
+    }
+
+    /// Keeps the bytes as a name, or says their first fault. It takes no memory.
+    pub fn read_list(list: Vec<u8>) -> Result<Name, NameFault>
+        ensures { result ≡ name_of list.items }
+    {
+        match name_fault(list.as_slice()) {
+            Some(fault) => Err(fault),
+            None => Ok(Name { list }),
+        }
     }
 
     /// Keeps bytes that are known to be a name. It takes no memory.
@@ -111,5 +129,15 @@ impl Name {
         Ok(Name {
             list: Vec::from_slice(alloc, self.list.as_slice())?,
         })
+    }
+
+    /// An equal name, where there is one.
+    pub fn copy_option(alloc: Global, name: &Option<Name>) -> Result<Option<Name>, NoMemory>
+        ensures { IfOk result (λ copy. copy ≡ name.now) }
+    {
+        match name {
+            None => Ok(None),
+            Some(name) => Ok(Some(name.copy(alloc)?)),
+        }
     }
 }

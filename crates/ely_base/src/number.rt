@@ -1,10 +1,14 @@
 //! Numbers in texts: decimal digits without a sign and without a leading zero.
 
-ghost use Rattle.std.specs.Prelude.{◌≡◌, ◌+◌, ◌*◌, ◌<◌, ◌≤◌, ◌==◌, ◌||◌, IsTrue, IfSome, IfNone, nat_lt, length, slice_index};
+ghost use Rattle.std.specs.Prelude.{◌≡◌, ◌+◌, ◌*◌, ◌<◌, ◌≤◌, ◌==◌, ◌||◌, ◌++◌, IsTrue, IfSome, IfNone, OnOk, OnErr, nat_lt, length, slice_index};
+ghost use Rattle.std.specs.Fmt.{decimal};
 ghost use Rattle.std.specs.List.{list_all};
 ghost use Rattle.std.specs.Char.{is_ascii_digit};
 ghost use Rattle.std.specs.Str.Parse.{digits_value};
 ghost use Rattle.ely_base.specs.Numbers.{number_of};
+
+use crate::refused::NoMemory;
+use itoa::Buffer;
 
 /// Whether the text is one byte, or begins with a byte above `0`.
 fn leads(text: &[u8]) -> bool
@@ -55,4 +59,14 @@ pub fn read_number(text: &[u8], max: u64) -> Option<u64>
         return None;
     }
     value_up_to(text, max)
+}
+
+/// Writes the decimal digits of the number behind what is there.
+pub fn push_number(out: &mut Vec<u8>, number: u64) -> Result<(), NoMemory>
+    ensures ok { OnOk result (out.new.items ≡ out.old.items ++ decimal number) }
+    ensures err { OnErr result (out.new.items ≡ out.old.items) }
+{
+    let mut buffer = Buffer::new();
+    out.extend_from_slice(buffer.format(number).as_bytes())?;
+    Ok(())
 }

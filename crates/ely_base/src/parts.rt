@@ -1,11 +1,11 @@
-//! Bytes cut at a byte, and how long a front of them is text.
+//! Bytes cut at a byte, and how long a prefix of them is text.
 
 ghost use Rattle.std.specs.Prelude.{◌≡◌, ◌==◌, ◌<◌, ◌+◌, ◌∷◌, length, position, IfSome};
 ghost use Rattle.std.specs.Option.{option_map};
 ghost use Rattle.std.specs.Str.Lossy.{utf8_valid_len};
 ghost use Rattle.ely_base.specs.Parts.{parts_at, parts_left};
 
-/// The length of the longest front that is UTF-8 (RFC 3629).
+/// The length of the longest prefix that is UTF-8 (RFC 3629).
 pub fn text_len(bytes: &[u8]) -> usize
     ensures { result ≡ utf8_valid_len bytes.now }
 {
@@ -15,8 +15,8 @@ pub fn text_len(bytes: &[u8]) -> usize
     }
 }
 
-/// The first place of the byte.
-fn first_place(bytes: &[u8], mark: u8) -> Option<usize>
+/// The offset of the first such byte.
+pub fn first_offset(bytes: &[u8], mark: u8) -> Option<usize>
     ensures { result ≡ position (λ b. b == mark) bytes.now }
 {
     bytes.iter().position(|b| *b == mark)
@@ -24,12 +24,13 @@ fn first_place(bytes: &[u8], mark: u8) -> Option<usize>
 
 /// The part up to the first such byte, and what stands behind that.
 pub fn cut_at(bytes: &[u8], mark: u8) -> (&[u8], Option<&[u8]>)
-    ensures parts { parts_at mark bytes.now ≡ result.0.now ∷ parts_left mark (option_map (λ rest. rest.now) result.1) }
+    ensures parts { parts_at mark bytes.now
+        ≡ result.0.now ∷ parts_left mark (option_map (λ rest. rest.now) result.1) }
     ensures shorter { IfSome result.1 (λ rest. length rest.now < length bytes.now) }
 {
-    match first_place(bytes, mark) {
+    match first_offset(bytes, mark) {
         None => (bytes, None),
-        Some(place) => (&bytes[..place], Some(&bytes[place + 1..])),
+        Some(offset) => (&bytes[..offset], Some(&bytes[offset + 1..])),
     }
 }
 

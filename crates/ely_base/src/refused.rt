@@ -1,7 +1,7 @@
 //! Answers of calls that take memory: want of it is apart from every fault of the input.
 
-ghost use Rattle.std.specs.Prelude.{◌≡◌};
-ghost use Rattle.ely_base.specs.declared.refused.NoMemory.{NoMemory as no_memory};
+ghost use Rattle.std.specs.Prelude.{◌≡◌, IfErr};
+ghost use Rattle.ely_base.specs.Refused.{IsAnswerAs, answer_as, without_fault, IsWithoutFault};
 ghost use Rattle.ely_base.specs.declared.refused.Refused.TheVariants.{NoMemory as OutOfMemory};
 
 use std::alloc::{AllocError, AllocFailed};
@@ -52,5 +52,45 @@ impl<F> From<NoMemory> for Refused<F> {
 
     fn from(_error: NoMemory) -> Refused<F> {
         Refused::NoMemory
+    }
+}
+
+/// The same answer, with a fault as one of another kind.
+pub fn refused_as<T, F, G, K: FnOnce(F) -> G + Drop>(
+    answer: Result<T, Refused<F>>,
+    kind: K,
+) -> Result<T, Refused<G>>
+    requires { K.IsAlwaysCallable kind }
+    ensures { IsAnswerAs (K.post kind) answer result }
+{
+    match answer {
+        Ok(value) => Ok(value),
+        Err(Refused::Fault(fault)) => Err(Refused::Fault(kind(fault))),
+        Err(Refused::NoMemory) => Err(Refused::NoMemory),
+    }
+}
+
+/// The same answer, with this fault in place of any other.
+pub fn or_fault<T, F: Drop, G: Drop>(
+    answer: Result<T, Refused<F>>,
+    fault: G,
+) -> Result<T, Refused<G>>
+    ensures { result ≡ answer_as (λ _. fault) answer }
+{
+    match answer {
+        Ok(value) => Ok(value),
+        Err(Refused::Fault(_)) => Err(Refused::Fault(fault)),
+        Err(Refused::NoMemory) => Err(Refused::NoMemory),
+    }
+}
+
+/// The same answer of a call that finds no fault.
+pub fn or_no_memory<T, F: Drop>(answer: Result<T, Refused<F>>) -> Result<T, NoMemory>
+    requires { IsWithoutFault answer }
+    ensures { result ≡ without_fault answer }
+{
+    match answer {
+        Ok(value) => Ok(value),
+        Err(_) => Err(NoMemory),
     }
 }

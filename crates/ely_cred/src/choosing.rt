@@ -13,8 +13,8 @@ fn serves(mech: Mech, cred: &StoredCred) -> bool
     match (mech, cred.credential()) {
         (Mech::Plain, _) => true,
         (_, Credential::Clear(_)) => true,
-        (Mech::ScramSha1, Credential::Scram1(_)) => true,
-        (Mech::ScramSha256, Credential::Scram256(_)) => true,
+        (Mech::ScramSha1, Credential::ScramSha1(_)) => true,
+        (Mech::ScramSha256, Credential::ScramSha256(_)) => true,
         (Mech::Digest, Credential::DigestMd5(_)) => true,
         (Mech::DigestSha256, Credential::DigestSha256(_)) => true,
         _ => false,
@@ -23,7 +23,7 @@ fn serves(mech: Mech, cred: &StoredCred) -> bool
 
 /// The credential of the lowest slot that serves the mechanism, with its slot.
 #[tactic(auto, unfolding(crate::specs::Keys::chosen))]
-pub(crate) fn chosen_entry(row: &Row, mech: Mech) -> Option<(u8, &StoredCred)>
+pub fn chosen_entry(row: &Row, mech: Mech) -> Option<(u8, &StoredCred)>
     ensures value { option_map (λ p. (p.0, p.1.now)) result ≡ chosen mech row.now }
     ensures serves { IfSome result (λ p. IsTrue (serves mech p.1.now)) }
 {

@@ -1,9 +1,9 @@
 //! The key that an identity's credential gives for a mechanism.
 
-ghost use Rattle.std.specs.Prelude.{◌≡◌, ℕ, ◌+◌, ◌≤◌, List, Some, IsTrue, IsSome, IfOk, OnOk};
+ghost use Rattle.std.specs.Prelude.{◌≡◌, ℕ, ◌+◌, List, Some, IsTrue, IsSome, IfOk, MatchResult};
 ghost use Rattle.std.specs.Option.{option_map};
-ghost use Rattle.ely_row.specs.Salts.{Derivation};
-ghost use Rattle.ely_cred.specs.Keys.{scram_keys_by, salted_key_by, serves, chosen, key_of, keyed, ready_of, key_cost, ready_cost};
+ghost use Rattle.ely_row.specs.Salts.{Params};
+ghost use Rattle.ely_cred.specs.Keys.{scram_keys, kept_key, salted_key, serves, chosen, key_of, ready_from, ready_of, key_cost, ready_cost};
 
 use crate::choosing::chosen_entry;
 use crate::key::{Ready, ReadyKey};
@@ -21,7 +21,7 @@ fn scram_key<H: HashAlg, L: Ledger>(
     turns: u32,
     steps: &mut Steps<L>,
 ) -> ReadyKey
-    ensures value { result ≡ ReadyKey.Scram (scram_keys_by H.digest H.BLOCK salted.now) salt turns }
+    ensures value { result ≡ ReadyKey.Scram (scram_keys H.hash salted.now) salt turns }
     ensures cost { steps.new ≡ steps.old + 2 }
 {
     ReadyKey::Scram {
@@ -37,11 +37,9 @@ fn kept_key<H: HashAlg, L: Ledger>(
     salted: &Salted,
     steps: &mut Steps<L>,
 ) -> Result<ReadyKey, NoMemory>
-    ensures value { IfOk result (λ key. key
-        ≡ ReadyKey.Scram (scram_keys_by H.digest H.BLOCK salted.now.salted) salted.now.salt salted.now.turns) }
-    ensures cost { OnOk result (steps.new ≡ steps.old + 2) }
-    ensures least { steps.old ≤ steps.new }
-    ensures most { steps.new ≤ steps.old + 2 }
+    ensures value { IfOk result (λ key. key ≡ kept_key H.hash salted.now) }
+    ensures cost { MatchResult result
+        (λ _. steps.new ≡ steps.old + 2) (λ _. steps.new ≡ steps.old) }
 {
     let salt = salted.salt().copy(alloc)?;
     Ok(scram_key::<H, L>(salted.salted(), salt, salted.turns(), steps))
@@ -57,10 +55,9 @@ fn salted_key<H: HashAlg, L: Ledger>(
     steps: &mut Steps<L>,
 ) -> Result<ReadyKey, NoMemory>
     ensures value { IfOk result (λ key. key
-        ≡ salted_key_by H.digest H.BLOCK params.now realm.now name.now password.now) }
-    ensures cost { OnOk result (steps.new ≡ steps.old + params.now.turns + 2) }
-    ensures least { steps.old ≤ steps.new }
-    ensures most { steps.new ≤ steps.old + params.now.turns + 2 }
+        ≡ salted_key H.hash params.now realm.now name.now password.now) }
+    ensures cost { MatchResult result
+        (λ _. steps.new ≡ steps.old + params.now.turns + 2) (λ _. steps.new ≡ steps.old) }
 {
     let salt = salt_of(alloc, params, realm, name)?;
     let turns = params.turns();
@@ -71,13 +68,13 @@ fn salted_key<H: HashAlg, L: Ledger>(
 /// The key of a credential for PLAIN: the credential itself.
 #[tactic(auto, unfolding(crate::specs::Keys::key_of))]
 fn plain_key(alloc: Global, cred: &StoredCred) -> Result<ReadyKey, NoMemory>
-    ensures { (d : Derivation) (realm name : List ℕ)
-        → IfOk result (λ key. Some key ≡ key_of d realm name Mech.Plain cred.now) }
+    ensures { (params : Params) (realm name : List ℕ)
+        → IfOk result (λ key. Some key ≡ key_of params realm name Mech.Plain cred.now) }
 {
     match cred.credential() {
         Credential::Clear(password) => Ok(ReadyKey::Password(password.copy(alloc)?)),
-        Credential::Scram1(salted) => Ok(ReadyKey::Salted(salted.copy(alloc)?)),
-        Credential::Scram256(salted) => Ok(ReadyKey::Salted(salted.copy(alloc)?)),
+        Credential::ScramSha1(salted) => Ok(ReadyKey::Salted(salted.copy(alloc)?)),
+        Credential::ScramSha256(salted) => Ok(ReadyKey::Salted(salted.copy(alloc)?)),
         Credential::DigestMd5(ha1) => Ok(ReadyKey::Ha1(ha1.copy(alloc)?)),
         Credential::DigestSha256(ha1) => Ok(ReadyKey::Ha1(ha1.copy(alloc)?)),
     }
@@ -95,23 +92,23 @@ fn key_of<L: Ledger>(
     steps: &mut Steps<L>,
 ) -> Result<ReadyKey, NoMemory>
     requires { IsTrue (serves mech cred.now) }
-    ensures value { IfOk result (λ key. Some key ≡ key_of params.now realm.now name.now mech cred.now) }
-    ensures cost { OnOk result (steps.new ≡ steps.old + key_cost params.now.turns mech cred.now) }
-    ensures least { steps.old ≤ steps.new }
-    ensures most { steps.new ≤ steps.old + key_cost params.now.turns mech cred.now }
+    ensures value { IfOk result (λ key. Some key
+        ≡ key_of params.now realm.now name.now mech cred.now) }
+    ensures cost { MatchResult result
+        (λ _. steps.new ≡ steps.old + key_cost params.now.turns mech cred.now) (λ _. steps.new ≡ steps.old) }
 {
     match (mech, cred.credential()) {
         (Mech::Plain, _) => plain_key(alloc, cred),
         (Mech::ScramSha1, Credential::Clear(password)) => {
             salted_key::<Sha1Alg, L>(alloc, params, realm, name, password, steps)
         }
-        (Mech::ScramSha1, Credential::Scram1(salted)) => {
+        (Mech::ScramSha1, Credential::ScramSha1(salted)) => {
             kept_key::<Sha1Alg, L>(alloc, salted, steps)
         }
         (Mech::ScramSha256, Credential::Clear(password)) => {
             salted_key::<Sha256Alg, L>(alloc, params, realm, name, password, steps)
         }
-        (Mech::ScramSha256, Credential::Scram256(salted)) => {
+        (Mech::ScramSha256, Credential::ScramSha256(salted)) => {
             kept_key::<Sha256Alg, L>(alloc, salted, steps)
         }
         (_, Credential::Clear(password)) => Ok(ReadyKey::Password(password.copy(alloc)?)),
@@ -134,11 +131,10 @@ fn ready_by<L: Ledger>(
 ) -> Result<Ready, NoMemory>
     requires { IsTrue (serves mech cred.now) }
     ensures value { IfOk result (λ ready. Some ready
-        ≡ option_map (keyed params.now realm.now name.now mech cred.now)
+        ≡ option_map (ready_from params.now realm.now name.now mech cred.now)
         (key_of params.now realm.now name.now mech cred.now)) }
-    ensures cost { OnOk result (steps.new ≡ steps.old + key_cost params.now.turns mech cred.now) }
-    ensures least { steps.old ≤ steps.new }
-    ensures most { steps.new ≤ steps.old + key_cost params.now.turns mech cred.now }
+    ensures cost { MatchResult result
+        (λ _. steps.new ≡ steps.old + key_cost params.now.turns mech cred.now) (λ _. steps.new ≡ steps.old) }
 {
     let kept_realm = realm.copy(alloc)?;
     let kept_name = name.copy(alloc)?;
@@ -149,7 +145,8 @@ fn ready_by<L: Ledger>(
 }
 
 /// The key of the credential that serves the mechanism, the one of the lowest slot, with all that it is derived of. Each
-/// HMAC computation is one step: the turns and two for a clear password under SCRAM, two for a salted one, and none else.
+/// HMAC computation is one step: the turns and two for a clear password under SCRAM, two for a salted one, and none else;
+/// none where memory runs out.
 #[tactic(auto, unfolding(crate::specs::Keys::ready_of))]
 pub fn derive<L: Ledger>(
     alloc: Global,
@@ -161,10 +158,10 @@ pub fn derive<L: Ledger>(
     steps: &mut Steps<L>,
 ) -> Result<Ready, NoMemory>
     requires { IsSome (chosen mech row.now) }
-    ensures value { IfOk result (λ ready. Some ready ≡ ready_of params.now realm.now name.now mech row.now) }
-    ensures cost { OnOk result (steps.new ≡ steps.old + ready_cost params.now mech row.now) }
-    ensures least { steps.old ≤ steps.new }
-    ensures most { steps.new ≤ steps.old + ready_cost params.now mech row.now }
+    ensures value { IfOk result (λ ready. Some ready
+        ≡ ready_of params.now realm.now name.now mech row.now) }
+    ensures cost { MatchResult result
+        (λ _. steps.new ≡ steps.old + ready_cost params.now mech row.now) (λ _. steps.new ≡ steps.old) }
 {
     match chosen_entry(row, mech) {
         Some((_, cred)) => ready_by::<L>(alloc, realm, name, cred, mech, params, steps),

@@ -1,9 +1,7 @@
 //! Whether a password that is shown in the clear proves an identity (PLAIN, RFC 4616).
 
-ghost use Rattle.std.specs.Prelude.{◌≡◌, ◌+◌, ◌++◌, codes};
-ghost use Rattle.std.specs.Str.{bytes_eq};
-ghost use Rattle.ely_hash.specs.Formulas.{hi_of};
-ghost use Rattle.ely_cred.specs.Guesses.{proves_hashed, proves, guess_cost};
+ghost use Rattle.std.specs.Prelude.{◌≡◌, ◌+◌};
+ghost use Rattle.ely_cred.specs.Guesses.{proves_salted, proves_hashed, proves, guess_cost};
 
 use crate::key::Ready;
 use ely_base::Name;
@@ -17,8 +15,7 @@ fn proves_salted<H: HashAlg, L: Ledger>(
     password: &[u8],
     steps: &mut Steps<L>,
 ) -> bool
-    ensures value { result
-        ≡ bytes_eq (hi_of H.digest H.BLOCK password.now salted.now.salt salted.now.turns) salted.now.salted }
+    ensures value { result ≡ proves_salted H.hash salted.now password.now }
     ensures cost { steps.new ≡ steps.old + salted.now.turns }
 {
     let guessed = hi::<H, L>(password, salted.salt().bytes(), salted.turns(), steps);
@@ -27,7 +24,7 @@ fn proves_salted<H: HashAlg, L: Ledger>(
 
 /// Whether the hash of the name, the realm and the password is the stored one.
 fn proves_hashed<H: HashAlg>(ha1: &Ha1, name: &Name, password: &[u8]) -> bool
-    ensures { result ≡ proves_hashed H.digest ha1.now name.now password.now }
+    ensures { result ≡ proves_hashed H.hash ha1.now name.now password.now }
 {
     let mut hash = H::start();
     hash.add(name.bytes());
@@ -49,8 +46,8 @@ pub fn guess<L: Ledger>(ready: &Ready, password: &[u8], steps: &mut Steps<L>) ->
 {
     match ready.cred().credential() {
         Credential::Clear(stored) => password == stored.bytes(),
-        Credential::Scram1(salted) => proves_salted::<Sha1Alg, L>(salted, password, steps),
-        Credential::Scram256(salted) => proves_salted::<Sha256Alg, L>(salted, password, steps),
+        Credential::ScramSha1(salted) => proves_salted::<Sha1Alg, L>(salted, password, steps),
+        Credential::ScramSha256(salted) => proves_salted::<Sha256Alg, L>(salted, password, steps),
         Credential::DigestMd5(ha1) => proves_hashed::<Md5Alg>(ha1, ready.name(), password),
         Credential::DigestSha256(ha1) => proves_hashed::<Sha256Alg>(ha1, ready.name(), password),
     }

@@ -1,7 +1,7 @@
 //! A key that a login is judged by, with all that it was derived of.
 
 ghost use Rattle.std.specs.Prelude.{◌≡◌, Some, IfOk};
-ghost use Rattle.ely_cred.specs.Keys.{keyed, key_of};
+ghost use Rattle.ely_cred.specs.Keys.{ready_from, key_of};
 
 use ely_base::{Bytes, Name, NoMemory};
 use ely_hash::ScramKeys;
@@ -40,11 +40,11 @@ pub struct Ready {
 
 impl Model for Ready {
     ghost use Rattle.std.specs.Prelude.{◌≡◌, Some};
-    ghost use Rattle.ely_cred.specs.Keys.{Keyed, keyed, key_of};
+    ghost use Rattle.ely_cred.specs.Keys.{Ready, ready_from, key_of};
 
-    ghost Value = { Keyed };
+    ghost Value = { Ready };
 
-    ghost view = { λ r. keyed r.params r.realm r.name r.mech r.cred r.key };
+    ghost view = { λ r. ready_from r.params r.realm r.name r.mech r.cred r.key };
 
     ghost invariant = { λ r. Some r.key ≡ key_of r.params r.realm r.name r.mech r.cred };
 }
@@ -78,7 +78,7 @@ impl Ready {
         key: ReadyKey,
     ) -> Ready
         requires { Some key ≡ key_of params realm name mech cred }
-        ensures { result ≡ keyed params realm name mech cred key }
+        ensures { result ≡ ready_from params realm name mech cred key }
     {
         Ready {
             realm,

@@ -9,7 +9,7 @@ mod guessing;
 mod key;
 mod salting;
 
-pub use choosing::choose;
+pub use choosing::{choose, chosen_entry};
 pub use derived::derive;
 pub use guessing::guess;
 pub use key::{Ready, ReadyKey};

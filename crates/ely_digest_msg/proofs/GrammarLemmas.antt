@@ -6,7 +6,7 @@ use Rattle.std.proofs.lemmas.List.{append-nil}
 use Rattle.std.specs.List.{prefix_len, take_while, list_all}
 use Rattle.std.specs.Option.{ok_or}
 use Rattle.ely_base.specs.Refused.{◌>>=◌}
-use Rattle.ely_digest_msg.specs.Parts.{is_blank, is_gap, is_token, after, starts, with_byte, quoted_of, token_of, equals_of, value_of, end_of, place}
+use Rattle.ely_digest_msg.specs.Parts.{is_blank, is_gap, is_token, after, starts, with_byte, quoted_of, token_of, equals_of, value_of, end_of, offset}
 use Rattle.ely_digest_msg.specs.Fields.{Values, known, nothing}
 use Rattle.ely_digest_msg.specs.Members.{first_time, kept, member_of, members_of, list_of}
 use Rattle.ely_digest_msg.specs.Grammar.{IsToken, Quotes, IsQuotedText, IsValue, Member, IsMember, BeginsWith, IsListOf, IsNew, AreNew, values_with}
@@ -136,13 +136,13 @@ token_no_quote (b ∷ bs) rest t = ⊎_elim
 
 reads_quoted : (size : ℕ) (inner value rest : List ℕ) → Quotes inner value → value_of size ((34 ∷ (inner ++ 34 ∷ [])) ++ rest) ≡ Ok (value, rest)
 reads_quoted size inner value rest q =
-    ap (λ (o : Option (List ℕ × List ℕ)). ok_or o (Quote (place size ((34 ∷ (inner ++ 34 ∷ [])) ++ rest))))
+    ap (λ (o : Option (List ℕ × List ℕ)). ok_or o (Quote (offset size ((34 ∷ (inner ++ 34 ∷ [])) ++ rest))))
     (ap quoted_of (append_assoc inner (34 ∷ []) rest) ∙ reads_quotes rest q)
 
 pub reads_value : (size : ℕ) (raw value rest : List ℕ) → IsValue raw value → Stops is_token rest → value_of size (raw ++ rest) ≡ Ok (value, rest)
 reads_value size raw value rest v s = ⊎_elim
     (λ (t : IsToken raw × (raw ≡ value)).
-    cond-false (starts 34 (raw ++ rest)) (ok_or (quoted_of (drop 1 (raw ++ rest))) (Quote (place size (raw ++ rest)))) (token_of size (raw ++ rest)) (token_no_quote raw rest t.0)
+    cond-false (starts 34 (raw ++ rest)) (ok_or (quoted_of (drop 1 (raw ++ rest))) (Quote (offset size (raw ++ rest)))) (token_of size (raw ++ rest)) (token_no_quote raw rest t.0)
     ∙ reads_token size raw rest t.0 s
     ∙ ap (λ (xs : List ℕ). let r : Result (List ℕ × List ℕ) DigestFault = Ok (xs, rest) in r) t.1)
     (λ (q : IsQuotedText raw value). subst (λ (xs : List ℕ). value_of size (xs ++ rest) ≡ Ok (value, rest)) (sym q.whole) (reads_quoted size q.inner value rest q.quotes))
@@ -153,7 +153,7 @@ reads_equals size before behind rest h k s =
     let text = before ++ 61 ∷ (behind ++ rest) in
     let cut : after is_blank text ≡ 61 ∷ (behind ++ rest) = cut_after is_blank before (61 ∷ (behind ++ rest)) h refl in
     let yes : starts 61 (after is_blank text) ≡ true = ap (starts 61) cut in
-    cond-true (starts 61 (after is_blank text)) (Ok (after is_blank (drop 1 (after is_blank text)))) (Err (Token (place size (after is_blank text)))) yes
+    cond-true (starts 61 (after is_blank text)) (Ok (after is_blank (drop 1 (after is_blank text)))) (Err (Token (offset size (after is_blank text)))) yes
     ∙ ap (λ (xs : List ℕ). let r : Result (List ℕ) DigestFault = Ok (after is_blank (drop 1 xs)) in r) cut
     ∙ ap (λ (xs : List ℕ). let r : Result (List ℕ) DigestFault = Ok xs in r) (cut_after is_blank behind rest k s)
 
@@ -169,7 +169,7 @@ reads_end size blanks tail h t =
     let cut = cut_after is_blank blanks tail h (tail_no_blank tail t) in
     let text = after is_blank (blanks ++ tail) in
     let yes : (eqb (length text) 0 || starts 44 text) ≡ true = ap (λ (xs : List ℕ). eqb (length xs) 0 || starts 44 xs) cut ∙ tail_ends tail t in
-    cond-true (eqb (length text) 0 || starts 44 text) (Ok text) (Err (Token (place size text))) yes
+    cond-true (eqb (length text) 0 || starts 44 text) (Ok text) (Err (Token (offset size text))) yes
     ∙ ap (λ (xs : List ℕ). let r : Result (List ℕ) DigestFault = Ok xs in r) cut
 
 first_is : (values : Values) (field : Option DigestField) → IsNew values field → first_time values field ≡ Ok field

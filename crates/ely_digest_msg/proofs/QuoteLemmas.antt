@@ -84,7 +84,7 @@ quoted_from_start text = same (quoted_len text)
     same None = refl
     same (Some n) = let e : n ≡ 0 + n = omega arith in ap Some e
 
--- a quoted text by the place of its end
+-- a quoted text by the offset of its end
 abbrev pub cut_at : List ℕ → ℕ → List ℕ × List ℕ
 cut_at text n = (unescaped (take n text), drop (n + 1) text)
 
@@ -148,14 +148,14 @@ token_plain (b ∷ text) = ⊎_elim
     ap unescaped none ∙ sym none)
     (cases_Bool (is_token b))
 
--- a quoted text that ends at that place, and one that doesn't end
+-- a quoted text that ends at that offset, and one that doesn't end
 pub ends_at : (text : List ℕ) (n : ℕ) → quoted_len text ≡ Some n → quoted_of text ≡ Some (cut_at text n)
 ends_at text n h = quoted_is text ∙ ap (λ (o : Option ℕ). option_map (cut_at text) o) h
 
 pub ends_nowhere : (text : List ℕ) → quoted_len text ≡ None → quoted_of text ≡ None
 ends_nowhere text h = quoted_is text ∙ ap (λ (o : Option ℕ). option_map (cut_at text) o) h
 
--- what a quoted text gives that ends at that place
+-- what a quoted text gives that ends at that offset
 pub read_within : (text inner raw back value rest : List ℕ) (n : ℕ) (fault : DigestFault) → inner ≡ text → quoted_of inner ≡ Some (cut_at inner n) → raw ≡ take n inner → back ≡ drop n inner → value ≡ unescaped raw → rest ≡ drop 1 back → Ok (value, rest) ≡ ok_or (quoted_of text) fault
 read_within text inner raw back value rest n fault same h r b v e =
     ap₂ (λ (xs ys : List ℕ). let r : Result (List ℕ × List ℕ) DigestFault = Ok (xs, ys) in r) (v ∙ ap unescaped r) (e ∙ ap (λ (xs : List ℕ). drop 1 xs) b ∙ drop-drop 1 n inner)

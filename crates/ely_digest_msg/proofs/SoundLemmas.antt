@@ -8,7 +8,7 @@ use Rattle.std.proofs.lemmas.List.Sums.{take_while-cons}
 use Rattle.std.specs.List.{prefix_len, take_while, list_all}
 use Rattle.std.specs.Option.{ok_or, is_some}
 use Rattle.ely_base.specs.Refused.{◌>>=◌}
-use Rattle.ely_digest_msg.specs.Parts.{is_blank, is_gap, is_token, after, starts, with_byte, quoted_of, token_of, equals_of, value_of, end_of, place}
+use Rattle.ely_digest_msg.specs.Parts.{is_blank, is_gap, is_token, after, starts, with_byte, quoted_of, token_of, equals_of, value_of, end_of, offset}
 use Rattle.ely_digest_msg.specs.Fields.{Values, known, given, nothing}
 use Rattle.ely_digest_msg.specs.Members.{first_time, kept, member_of, members_of, list_of}
 use Rattle.ely_digest_msg.specs.Grammar.{IsToken, Quotes, IsValue, Member, IsMember, BeginsWith, IsListOf, IsNew, AreNew, values_with, IsRead}
@@ -56,9 +56,9 @@ parted p text = sym (take-append-drop (prefix_len p text) text)
 
 token_sound : (size : ℕ) (text : List ℕ) (t : List ℕ × List ℕ) → token_of size text ≡ Ok t → IsToken t.0 × (text ≡ t.0 ++ t.1)
 token_sound size text t h = ⊎_elim
-    (λ (gone : eqb (prefix_len is_token text) 0 ≡ true). absurd (no_answer _ t (sym (cond-true (eqb (prefix_len is_token text) 0) (Err (Token (place size text))) (Ok (take_while is_token text, after is_token text)) gone) ∙ h)))
+    (λ (gone : eqb (prefix_len is_token text) 0 ≡ true). absurd (no_answer _ t (sym (cond-true (eqb (prefix_len is_token text) 0) (Err (Token (offset size text))) (Ok (take_while is_token text, after is_token text)) gone) ∙ h)))
     (λ (some : eqb (prefix_len is_token text) 0 ≡ false).
-    let is : (take_while is_token text, after is_token text) ≡ t = same_answer (take_while is_token text, after is_token text) t (sym (cond-false (eqb (prefix_len is_token text) 0) (Err (Token (place size text))) (Ok (take_while is_token text, after is_token text)) some) ∙ h) in
+    let is : (take_while is_token text, after is_token text) ≡ t = same_answer (take_while is_token text, after is_token text) t (sym (cond-false (eqb (prefix_len is_token text) 0) (Err (Token (offset size text))) (Ok (take_while is_token text, after is_token text)) some) ∙ h) in
     let len = length-prefix_len is_token text in
     let pos : 0 < length (take_while is_token text) = grind (arith, nat_tests) in
     subst (λ (u : List ℕ × List ℕ). IsToken u.0 × (text ≡ u.0 ++ u.1)) is ((pos, all_front is_token text), parted is_token text))
@@ -85,7 +85,7 @@ record Equals (text rest : List ℕ) : Type 0 where
 equals_sound : (size : ℕ) (text rest : List ℕ) → equals_of size text ≡ Ok rest → Equals text rest
 equals_sound size text rest h =
     let xs = after is_blank text in
-    let got = if_ok (starts 61 xs) (after is_blank (drop 1 xs)) rest (Token (place size xs)) h in
+    let got = if_ok (starts 61 xs) (after is_blank (drop 1 xs)) rest (Token (offset size xs)) h in
     let tail : xs ≡ 61 ∷ (take_while is_blank (drop 1 xs) ++ rest) = starts_sound 61 xs got.0 ∙ ap (λ (ys : List ℕ). 61 ∷ ys) (parted is_blank (drop 1 xs) ∙ ap (λ (ys : List ℕ). take_while is_blank (drop 1 xs) ++ ys) got.1) in
     record {
       before = take_while is_blank text;
@@ -154,10 +154,10 @@ ok_or_sound (Some y) e x h = ap Some (same_answer y x h)
 
 value_sound : (size : ℕ) (text : List ℕ) (p : List ℕ × List ℕ) → value_of size text ≡ Ok p → ValueFront text p.0 p.1
 value_sound size text p h =
-    let quoted = ok_or (quoted_of (drop 1 text)) (Quote (place size text)) in
+    let quoted = ok_or (quoted_of (drop 1 text)) (Quote (offset size text)) in
     ⊎_elim
     (λ (yes : starts 34 text ≡ true).
-    let q = quotes_sound (drop 1 text) p (ok_or_sound (quoted_of (drop 1 text)) (Quote (place size text)) p (sym (cond-true (starts 34 text) quoted (token_of size text) yes) ∙ h)) in
+    let q = quotes_sound (drop 1 text) p (ok_or_sound (quoted_of (drop 1 text)) (Quote (offset size text)) p (sym (cond-true (starts 34 text) quoted (token_of size text) yes) ∙ h)) in
     record {
       raw = 34 ∷ (q.inner ++ 34 ∷ []);
       whole = starts_sound 34 text yes ∙ ap (λ (ys : List ℕ). 34 ∷ ys) (q.whole ∙ sym (append_assoc q.inner (34 ∷ []) p.1));
@@ -178,7 +178,7 @@ tail_sound (c ∷ cs) h =
 end_sound : (size : ℕ) (text rest : List ℕ) → end_of size text ≡ Ok rest → (text ≡ take_while is_blank text ++ rest) × IsTail rest
 end_sound size text rest h =
     let xs = after is_blank text in
-    let got = if_ok (eqb (length xs) 0 || starts 44 xs) xs rest (Token (place size xs)) h in
+    let got = if_ok (eqb (length xs) 0 || starts 44 xs) xs rest (Token (offset size xs)) h in
     (parted is_blank text ∙ ap (λ (ys : List ℕ). take_while is_blank text ++ ys) got.1, subst IsTail got.1 (tail_sound xs got.0))
 
 abbrev keeps : Values → Option DigestField → List ℕ → List ℕ → Result (Values × List ℕ) DigestFault

@@ -1,4 +1,4 @@
--- The values by place.
+-- The values by offset.
 use Rattle.std.proofs.Common.{◌≡◌, ℕ, List, Option, Some, Bor, ap, ap₂, ◌∙◌}
 use Rattle.std.proofs.lemmas.List.{map-set}
 use Rattle.std.specs.Prelude.{slice_set}

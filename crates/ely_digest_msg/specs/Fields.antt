@@ -36,7 +36,7 @@ known name = first_named name fields
 abbrev pub Values : Type 0
 Values = List (Option (List ℕ))
 
--- the place of a field among the values
+-- the index of a field among the values
 abbrev pub index_of : DigestField → ℕ
 index_of Username = 0
 index_of Realm = 1

@@ -36,6 +36,10 @@ must test fault = if test then Ok tt else Err fault
 abbrev pub is_name : List ℕ → Bool
 is_name text = not (is_some (name_fault text))
 
+-- the name that a text is
+abbrev pub name_value_of : List ℕ → Result (List ℕ) DigestFault
+name_value_of text = if is_name text then Ok text else Err BadName
+
 -- a digit, or a letter from `a` to `f`
 abbrev pub is_lower_hex : ℕ → Bool
 is_lower_hex b = is_ascii_digit b || (nat_le 97 b && nat_le b 102)
@@ -72,12 +76,12 @@ header_from values = do
   nc ← needed Nc values
   cnonce ← needed Cnonce values
   qop ← needed Qop values
-  named ← must (is_name name) BadName
+  named ← name_value_of name
   count ← count_of nc
   alg ← alg_of (given Algorithm values)
   auth ← must (bytes_eq qop (codes "auth")) BadQop
   plain ← must (is_plain (given Userhash values)) BadUserhash
-  Ok (record { alg = alg; name = name; realm = realm; nonce = nonce; uri = uri; response = response; nc = count; cnonce = cnonce })
+  Ok (record { alg = alg; name = named; realm = realm; nonce = nonce; uri = uri; response = response; nc = count; cnonce = cnonce })
 
 -- the text begins with `Digest`, in any case, and a space (RFC 7235 section 2.1)
 abbrev pub is_digest : List ℕ → Bool

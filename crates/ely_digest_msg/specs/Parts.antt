@@ -55,30 +55,30 @@ quoted_of (b ∷ c ∷ rest) =
     else (if b == 92 then with_byte c (quoted_of rest)
     else with_byte b (quoted_of (c ∷ rest)))
 
--- the place in a header of that size of what is left of it
-abbrev pub place : ℕ → List ℕ → ℕ
-place size rest = size - length rest
+-- the offset in a header of that size of what is left of it
+abbrev pub offset : ℕ → List ℕ → ℕ
+offset size rest = size - length rest
 
 -- a token, of one or more bytes, and what follows it
 abbrev pub token_of : ℕ → List ℕ → Result (List ℕ × List ℕ) DigestFault
 token_of size text =
-    if prefix_len is_token text == 0 then Err (Token (place size text))
+    if prefix_len is_token text == 0 then Err (Token (offset size text))
     else Ok (take_while is_token text, after is_token text)
 
 -- a value, a token or a quoted text (RFC 7235 section 2.1), without escapes, and what follows it
 abbrev pub value_of : ℕ → List ℕ → Result (List ℕ × List ℕ) DigestFault
 value_of size text =
-    if starts 34 text then ok_or (quoted_of (drop 1 text)) (Quote (place size text))
+    if starts 34 text then ok_or (quoted_of (drop 1 text)) (Quote (offset size text))
     else token_of size text
 
 -- what follows `=` and the blanks round it (RFC 7235 section 2.1)
 abbrev pub equals_of : ℕ → List ℕ → Result (List ℕ) DigestFault
 equals_of size text =
     if starts 61 (after is_blank text) then Ok (after is_blank (drop 1 (after is_blank text)))
-    else Err (Token (place size (after is_blank text)))
+    else Err (Token (offset size (after is_blank text)))
 
 -- what follows a member: a comma or the end, behind blanks (RFC 7230 section 7)
 abbrev pub end_of : ℕ → List ℕ → Result (List ℕ) DigestFault
 end_of size text =
     if length (after is_blank text) == 0 || starts 44 (after is_blank text) then Ok (after is_blank text)
-    else Err (Token (place size (after is_blank text)))
+    else Err (Token (offset size (after is_blank text)))

@@ -19,14 +19,14 @@ pub enum DigestField {
     Userhash,
 }
 
-/// Why a text is no header, the first fault. Places count bytes from the start of the header, from 0.
+/// Why a text is no header, the first fault. Offsets count bytes from the start of the header, from 0.
 #[derive(Clone, Copy, Debug, PartialEq, Eq)]
 pub enum DigestFault {
     /// The text doesn't begin with `Digest` and a space.
     Scheme,
-    /// The place where a token, `=`, a comma or the end was due.
+    /// The offset where a token, `=`, a comma or the end was due.
     Token(usize),
-    /// The place of an opening quote that doesn't end.
+    /// The offset of an opening quote that doesn't end.
     Quote(usize),
     /// A known name that stood before.
     Repeat(DigestField),

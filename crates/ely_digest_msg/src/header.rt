@@ -4,15 +4,16 @@
 ghost use Rattle.std.specs.Prelude.{◌≡◌, ◌≤◌, IsTrue, length, IfOk};
 ghost use Rattle.ely_base.specs.Names.{IsName};
 ghost use Rattle.ely_digest_msg.specs.Fields.{given};
-ghost use Rattle.ely_digest_msg.specs.Headers.{alg_text, needed, must, is_name, count_of, alg_of, is_plain, header_from, is_digest, header_of};
+ghost use Rattle.ely_digest_msg.specs.Headers.{alg_text, needed, must, count_of, alg_of, is_plain, header_from, is_digest, header_of};
 
 use crate::fault::{DigestFault, DigestField};
 use crate::members::read_list;
 use crate::parts::{same_word, starts};
 use crate::quoted::Quoted;
-use crate::rest::from_place;
+use crate::quoted_name::QuotedName;
+use crate::rest::from_offset;
 use crate::table::Table;
-use crate::values::{is_name, is_word, is_word_in_any_case, read_count};
+use crate::values::{is_word, is_word_in_any_case, read_count};
 
 /// The hash of a header (RFC 7616 section 3.4, `algorithm`).
 #[derive(Clone, Copy, Debug, PartialEq, Eq)]
@@ -40,7 +41,7 @@ pub struct HeaderView<'a> {
     /// MD5 where none is named.
     pub alg: DigestAlg,
     /// The user's name.
-    pub name: Quoted<'a>,
+    pub name: QuotedName<'a>,
     pub realm: Quoted<'a>,
     pub nonce: Quoted<'a>,
     pub uri: Quoted<'a>,
@@ -108,7 +109,7 @@ fn read_header<'a>(table: &Table<'a>) -> Result<HeaderView<'a>, DigestFault>
     let nc = needed(DigestField::Nc, table)?;
     let cnonce = needed(DigestField::Cnonce, table)?;
     let qop = needed(DigestField::Qop, table)?;
-    must(is_name(&name), DigestFault::Name)?;
+    let name = QuotedName::read(name)?;
     let nc = read_count(&nc)?;
     let alg = read_alg(table.get(DigestField::Algorithm))?;
     must(is_word(&qop, b"auth"), DigestFault::Qop)?;
@@ -146,6 +147,6 @@ pub fn scan_authorization(text: &[u8]) -> Result<HeaderView<'_>, DigestFault>
     if !is_digest(text) {
         return Err(DigestFault::Scheme);
     }
-    let table = read_list(text.len(), from_place(text, 7))?;
+    let table = read_list(text.len(), from_offset(text, 7))?;
     read_header(&table)
 }

@@ -10,6 +10,7 @@ mod header;
 mod members;
 mod parts;
 mod quoted;
+mod quoted_name;
 mod reply;
 mod rest;
 mod table;
@@ -20,6 +21,7 @@ pub use fault::{DigestFault, DigestField};
 pub use grammar::reads_grammar;
 pub use header::{DigestAlg, HeaderView, scan_authorization};
 pub use quoted::Quoted;
+pub use quoted_name::QuotedName;
 pub use reply::{DigestReply, read_authorization};
 
 #[cfg(test)]

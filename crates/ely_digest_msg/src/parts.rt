@@ -1,16 +1,16 @@
 //! The parts of a header's members, read from left to right: tokens, `=`, values and what follows a member
 //! (RFC 7235 section 2.1, RFC 7230 section 3.2.6). Each reader takes the size of the whole header, from which it
-//! counts the place of a fault.
+//! counts the offset of a fault.
 
 ghost use Rattle.std.specs.Prelude.{◌≡◌, ◌≤◌, ◌<◌, ◌+◌, None, Some, IsTrue, length, take, drop, IfOk, IfSome, MatchOption};
 ghost use Rattle.std.specs.List.{prefix_len};
 ghost use Rattle.std.specs.Option.{ok_or};
 ghost use Rattle.ely_digest_msg.specs.declared.fault.DigestFault.TheVariants.{Quote};
-ghost use Rattle.ely_digest_msg.specs.Parts.{is_blank, is_gap, is_token, after, starts, same_word, unescaped, quoted_of, place, token_of, value_of, equals_of, end_of};
+ghost use Rattle.ely_digest_msg.specs.Parts.{is_blank, is_gap, is_token, after, starts, same_word, unescaped, quoted_of, offset, token_of, value_of, equals_of, end_of};
 
 use crate::fault::DigestFault;
 use crate::quoted::Quoted;
-use crate::rest::{Rest, from_place};
+use crate::rest::{Rest, from_offset};
 
 /// Whether the byte is a space or a tab.
 fn is_blank(b: u8) -> bool
@@ -64,7 +64,7 @@ fn after_blanks(text: &[u8]) -> &[u8]
     ensures value { result.now ≡ after is_blank text.now }
     ensures shorter { length result.now ≤ length text.now }
 {
-    from_place(text, blank_len(text))
+    from_offset(text, blank_len(text))
 }
 
 /// The text after the blanks and commas that it begins with.
@@ -72,7 +72,7 @@ pub(crate) fn after_gap(text: &[u8]) -> &[u8]
     ensures value { result.now ≡ after is_gap text.now }
     ensures shorter { length result.now ≤ length text.now }
 {
-    from_place(text, gap_len(text))
+    from_offset(text, gap_len(text))
 }
 
 /// Whether the text is the word, without case.
@@ -129,7 +129,7 @@ pub(crate) fn read_equals(size: usize, text: &[u8]) -> Result<Rest<'_>, DigestFa
     if !starts(b'=', text) {
         return Err(DigestFault::Token(size - text.len()));
     }
-    Ok(Rest::of(after_blanks(from_place(text, 1))))
+    Ok(Rest::of(after_blanks(from_offset(text, 1))))
 }
 
 /// What follows a member: a comma or the end, behind blanks.
@@ -165,15 +165,15 @@ pub(crate) fn read_value<'a>(
 fn read_quoted<'a>(size: usize, text: &'a [u8]) -> Result<(Quoted<'a>, Rest<'a>), DigestFault>
     requires size { length text.now ≤ size }
     requires quote { IsTrue (starts 34 text.now) }
-    ensures value { result ≡ ok_or (quoted_of (drop 1 text.now)) (Quote (place size text.now)) }
+    ensures value { result ≡ ok_or (quoted_of (drop 1 text.now)) (Quote (offset size text.now)) }
     ensures shorter { IfOk result (λ r. length r.1 ≤ length text.now) }
 {
-    let inner = from_place(text, 1);
+    let inner = from_offset(text, 1);
     match quoted_len(inner) {
         None => Err(DigestFault::Quote(size - text.len())),
         Some(len) => {
             let (raw, rest) = inner.split_at(len);
-            Ok((Quoted::of(raw), Rest::of(from_place(rest, 1))))
+            Ok((Quoted::of(raw), Rest::of(from_offset(rest, 1))))
         }
     }
 }

@@ -1,12 +1,11 @@
 //! Texts that a header lends, seen as their bytes without escapes, and copies of them.
 
-ghost use Rattle.std.specs.Prelude.{◌≡◌, ◌<◌, ◌∷◌, [], length, IfOk, IfSome, MatchOption};
-ghost use Rattle.ely_base.specs.Names.{IsName};
+ghost use Rattle.std.specs.Prelude.{◌≡◌, ◌<◌, ◌∷◌, [], length, IfOk, IfSome, IfNone, MatchOption};
 ghost use Rattle.ely_digest_msg.specs.Parts.{unescaped};
 
-use crate::rest::{Rest, from_place};
+use crate::rest::{Rest, from_offset};
 use arrayvec::ArrayVec;
-use ely_base::{Bytes, Name, NoMemory};
+use ely_base::{Bytes, NoMemory};
 use std::alloc::Global;
 use std::marker::Model;
 
@@ -29,16 +28,17 @@ impl<'a> Model for Quoted<'a> {
 
 /// The first byte that quoted bytes stand for, and what follows it.
 fn next_byte(raw: &[u8]) -> Option<(u8, Rest<'_>)>
-    ensures first { MatchOption result (unescaped raw.now ≡ []) (λ n. unescaped raw.now ≡ n.0 ∷ unescaped n.1) }
+    ensures none { IfNone result (unescaped raw.now ≡ []) }
+    ensures first { IfSome result (λ n. unescaped raw.now ≡ n.0 ∷ unescaped n.1) }
     ensures shorter { IfSome result (λ n. length n.1 < length raw.now) }
 {
     if raw.len() == 0 {
         return None;
     }
     if raw.len() > 1 && raw[0] == b'\\' {
-        return Some((raw[1], Rest::of(from_place(raw, 2))));
+        return Some((raw[1], Rest::of(from_offset(raw, 2))));
     }
-    Some((raw[0], Rest::of(from_place(raw, 1))))
+    Some((raw[0], Rest::of(from_offset(raw, 1))))
 }
 
 impl<'a> Quoted<'a> {
@@ -73,7 +73,7 @@ impl<'a> Quoted<'a> {
     }
 
     /// The bytes without their escapes, in a list.
-    fn list(&self, alloc: Global) -> Result<Vec<u8>, NoMemory>
+    pub(crate) fn list(&self, alloc: Global) -> Result<Vec<u8>, NoMemory>
         ensures { IfOk result (λ list. list.items ≡ self.now) }
     {
         let mut bytes = Vec::new(alloc);
@@ -90,13 +90,5 @@ impl<'a> Quoted<'a> {
         ensures { IfOk result (λ copy. copy ≡ self.now) }
     {
         Ok(Bytes::of(self.list(alloc)?))
-    }
-
-    /// The bytes without their escapes, which are known to be a name.
-    pub fn copy_name(&self, alloc: Global) -> Result<Name, NoMemory>
-        requires { IsName self.now }
-        ensures { IfOk result (λ copy. copy ≡ self.now) }
-    {
-        Ok(Name::of(self.list(alloc)?))
     }
 }

@@ -1,7 +1,6 @@
 //! Headers that are kept beyond the text that they came from.
 
 ghost use Rattle.std.specs.Prelude.{◌≡◌, IfOk};
-ghost use Rattle.ely_base.specs.Names.{IsName};
 ghost use Rattle.ely_base.specs.Refused.{Gives};
 ghost use Rattle.ely_digest_msg.specs.Replies.{reply_from, reply_of};
 
@@ -29,12 +28,11 @@ pub struct DigestReply {
 impl HeaderView<'_> {
     /// The same fields, kept.
     pub fn copy(&self, alloc: Global) -> Result<DigestReply, NoMemory>
-        requires { IsName self.now.name }
         ensures { IfOk result (λ copy. copy ≡ reply_from self.now) }
     {
         Ok(DigestReply {
             alg: self.alg,
-            name: self.name.copy_name(alloc)?,
+            name: self.name.copy(alloc)?,
             realm: self.realm.copy(alloc)?,
             nonce: self.nonce.copy(alloc)?,
             uri: self.uri.copy(alloc)?,

@@ -32,10 +32,10 @@ impl<'a> Rest<'a> {
     }
 }
 
-/// The text from that place on.
-pub(crate) fn from_place(text: &[u8], place: usize) -> &[u8]
-    requires { place ≤ length text.now }
-    ensures { result.now ≡ drop place text.now }
+/// The text from that offset on.
+pub(crate) fn from_offset(text: &[u8], offset: usize) -> &[u8]
+    requires { offset ≤ length text.now }
+    ensures { result.now ≡ drop offset text.now }
 {
-    text.split_at(place).1
+    text.split_at(offset).1
 }

@@ -41,7 +41,7 @@ const FIELDS: [DigestField; 11] = [
     DigestField::Userhash,
 ];
 
-/// The place of a field among the values.
+/// The index of a field among the values.
 fn index_of(field: DigestField) -> usize
     ensures value { result ≡ index_of field }
     ensures small { result < 11 }

@@ -1,85 +1,115 @@
--- What the kept contexts stand for.
-use Rattle.std.specs.Prelude.{ℕ, ◌≡◌, ◌≤◌, ◌||◌, Bool, true, List, map, length, Option, Some, None, IsSome, Result, Ok, Err}
-use Rattle.std.specs.Option.{option_map, option_and_then}
-use Rattle.std.specs.List.{AllByRecursion}
-use denote.Ref.{Bor}
-use Rattle.ely_domain.specs.declared.context.Context.{Context}
-use Rattle.ely_domain.specs.declared.context.Pin.{Pin}
-use Rattle.ely_domain.specs.declared.context.Prepared.{Prepared}
-use Rattle.ely_row.specs.declared.edit.Edit.{Edit}
-use Rattle.ely_script.specs.declared.word.StateWord.{StateWord}
-use Rattle.ely_script.specs.declared.word.StateWord.TheVariants as states
-use Rattle.ely_script.specs.Words.{same_state}
-use Rattle.ely_row.specs.declared.mech.Mech.TheVariants as mechs
-use Rattle.ely_row.specs.declared.place.Place.{Place}
-use Rattle.ely_row.specs.Rows.{Identity}
-use Rattle.ely_cred.specs.Keys.{Keyed, chosen}
+-- What the kept contexts stand for, and what they keep.
+use Rattle.std.specs.Prelude.{ℕ, ◌≡◌, ◌≤◌, ◌⊎◌, Bool, true, false, List, length, Option, Some, None, IsSome, Result, Ok, Err}
+use Rattle.ely_row.specs.declared.mech.Mech.{Mech}
+use Rattle.ely_cred.specs.Keys.{chosen}
+use Rattle.ely_config.specs.declared.Config.{Config}
+use Rattle.ely_table.specs.Faults.{Tables}
+use Rattle.ely_script.specs.declared.claim.Claim.{Claim}
 use Rattle.ely_script.specs.declared.outcome.Outcome.{Outcome}
-use Rattle.ely_domain.specs.Machine.{Login, Pinned, Answered, roles, login_of, with_login, in_state, carried_in, ident, ready_at, naming_fault}
-use Rattle.ely_domain.specs.Costs.{carried_cost}
+use Rattle.ely_script.specs.declared.outcome.Outcome.TheVariants as outcomes
+use Rattle.ely_script.specs.declared.word.StateWord.{StateWord}
+use Rattle.ely_context.specs.declared.naming.Naming.{Naming}
+use Rattle.ely_context.specs.declared.pin.Pin.{Pin}
+use Rattle.ely_context.specs.declared.stage.Stage.TheVariants.{Fresh, Loading, Named, Checking, Proved, Authorized, Complete, Failed}
+use Rattle.ely_context.specs.Contexts.{ContextStage, ContextLogin}
+use Rattle.ely_context.specs.Stages.{state_of, proved_pin, login_view, at_stage}
+use Rattle.ely_context.specs.Logins.{login_of, each_login}
+use Rattle.ely_domain.specs.declared.naming.Found.{Found}
+use Rattle.ely_domain.specs.declared.prepared.Prepared.{Prepared}
+use Rattle.ely_domain.specs.Given.{Given}
+use Rattle.ely_domain.specs.Identities.{Known, ident, key_at, roles, grants, to_log_in}
+use Rattle.ely_domain.specs.Logins.{Pinned, KnownStage, KnownLogin, Live}
+use Rattle.ely_domain.specs.declared.event.Event.{Event}
+use Rattle.ely_domain.specs.Steps.{Reply, NotDue, Stays, Moves, naming, is_claim_of, is_evidence_of, reply, carried, is_carried, not_due}
 
+-- what the machine knows of a pin: the row is left out, since it follows from the place and the version
 abbrev pub pinned : Pin → Pinned
 pinned p = record { version = p.version; place = p.place; claim = p.claim }
 
-abbrev pub login : Context → ℕ × Login
-login c = (c.id, record { serial = c.serial; state = c.state; pin = option_map pinned c.pin; evidence = c.evidence })
+-- what the machine knows of a login: the key is left out, since it follows from the pin
+abbrev pub seen_login : ContextLogin → KnownLogin
+seen_login login = login_view pinned (λ key. tt) login
 
-abbrev pub logins : List Context → List (ℕ × Login)
-logins contexts = map login contexts
+-- what the machine knows of the live logins
+abbrev pub seen_live : List (ℕ × ContextLogin) → Live
+seen_live logins = record { logins = each_login seen_login logins }
+
+-- what a step may read, of the configuration and the tables of a domain
+abbrev pub read_of : Config → Tables → Known
+read_of config tables = record { given = record { config = config; limit = tables.limit }; edits = tables.journal }
 
 -- what succeed hands out for a pin
-abbrev pub prepared_for : List Edit → Pinned → Prepared
-prepared_for edits pin = record { version = pin.version; place = pin.place; roles = roles edits pin.version pin.place }
+abbrev pub prepared_for : Known → Pinned → Prepared
+prepared_for known pin = record { version = pin.version; place = pin.place; roles = roles known pin.version pin.place }
 
--- the key of what was pinned
-abbrev pub key_for : List Edit → Pinned → Option Keyed
-key_for edits pin = ready_at edits pin.version pin.place
+-- a pin is of a version that was, holds the row of that version, one of whose credentials serves, and is of the mechanism
+pub record IsPin (known : Known) (mech : Mech) (p : Pin) : Type 0 where
+  pub past : p.version ≤ length known.edits
+  pub row_is : ident known p.version p.place ≡ Some p.row
+  pub serves : IsSome (chosen mech p.row)
+  pub form : is_claim_of mech p.claim ≡ true
 
--- the pin is of a version that was, and holds the row of that version, one of whose credentials serves
-pub record IsOfItsTime (edits : List Edit) (p : Pin) : Type 0 where
-  pub past : p.version ≤ length edits
-  pub row_is : ident edits p.version p.place ≡ Some p.row
-  pub serves : IsSome (chosen mechs.Plain p.row)
+-- a key is that of what was pinned
+abbrev pub IsKey : Known → Mech → Pin → Naming → Type 0
+IsKey known mech p key = key_at known mech p.version p.place ≡ Some key.ready
 
-abbrev pub IsPast : List Edit → Option Pin → Type 0
-IsPast edits None = Unit {0}
-IsPast edits (Some p) = IsOfItsTime edits p
+-- what a login holds at its stage follows from its pin
+abbrev pub HoldsIts : Known → Mech → ContextStage → Type 0
+HoldsIts known mech Fresh = Unit {0}
+HoldsIts known mech (Loading p) = IsPin known mech p
+HoldsIts known mech (Named p key) = IsPin known mech p × IsKey known mech p key
+HoldsIts known mech (Checking p key evidence) =
+    IsPin known mech p × IsKey known mech p key × (is_evidence_of mech evidence ≡ true)
+HoldsIts known mech (Proved p) = IsPin known mech p
+HoldsIts known mech (Authorized p) = IsPin known mech p
+HoldsIts known mech (Complete p) = IsPin known mech p
+HoldsIts known mech Failed = Unit {0}
 
--- the states in which a login holds its key
-abbrev pub has_key : StateWord → Bool
-has_key state = same_state state states.Named || same_state state states.Checking
+-- an authorized login has its identity ready to be handed out
+abbrev pub HasHandout : Known → Option Prepared → ContextStage → Type 0
+HasHandout known prepared (Authorized p) = prepared ≡ Some (prepared_for known (pinned p))
+HasHandout known prepared stage = Unit {0}
 
--- the parts of a context follow from its pin: the row, the key once it is named, and what an authorized one hands out
-pub record IsSound (edits : List Edit) (c : Context) : Type 0 where
-  pub past : IsPast edits c.pin
-  pub keyed : has_key c.state ≡ true → c.ready ≡ option_and_then (key_for edits) (option_map pinned c.pin)
-  pub prepared : same_state c.state states.Authorized ≡ true → c.prepared ≡ option_map (prepared_for edits) (option_map pinned c.pin)
+-- a login holds what follows from its pin, and has its identity ready where it is authorized
+abbrev pub IsSoundAt : Known → Option Prepared → ContextLogin → Type 0
+IsSoundAt known prepared login = HoldsIts known login.mech login.stage × HasHandout known prepared login.stage
 
-abbrev pub AreSound : List Edit → List Context → Type 0
-AreSound edits contexts = AllByRecursion (IsSound edits) contexts
+-- whatever was sound of the login before is sound of it after
+abbrev pub StaysSound : Known → ContextLogin → ContextLogin → Type 0
+StaysSound known old new = (prepared : Option Prepared) → IsSoundAt known prepared old → IsSoundAt known prepared new
 
--- what contracts see of a context that was found
-abbrev pub seen : Option (Bor Context) → Option Login
-seen found = option_map (λ x. (login x.now).1) found
+-- each live login is sound, with what is kept to be handed out under its id
+abbrev pub IsSound : Known → List (ℕ × ContextLogin) → List (ℕ × Prepared) → Type 0
+IsSound known logins prepared = (c : ℕ) (login : ContextLogin) → login_of logins c ≡ Some login
+    → IsSoundAt known (login_of prepared c) login
 
--- the login with this id is changed, and nothing else
-abbrev pub IsChanged : List (ℕ × Login) → List (ℕ × Login) → ℕ → (Login → Login) → Type 0
-IsChanged old new c change = (l : Login) → login_of old c ≡ Some l → new ≡ with_login old c (change l)
+-- an outcome, and a login after it, are what a reply makes of the login before it; the third tells that it isn't due
+abbrev pub IsReply : Reply → (StateWord → Outcome) → ContextLogin → Outcome → ContextLogin → Type 0
+IsReply NotDue late old outcome new = (outcome ≡ late (state_of old.stage)) × (new ≡ old)
+IsReply (Stays said) late old outcome new = (outcome ≡ said) × (new ≡ old)
+IsReply (Moves said stage) late old outcome new =
+    (outcome ≡ said) × (seen_login new ≡ at_stage (seen_login old) stage)
 
--- the login with this id is this one, and it is in the state: what is answered is answered of it
-pub record IsIn (live : List (ℕ × Login)) (c : ℕ) (state : StateWord) (l : Login) : Type 0 where
-  pub is : login_of live c ≡ Some l
-  pub same : same_state l.state state ≡ true
-  pub answers : (answer : Login → Answered) (r : Answered) → answer l ≡ r → r ≡ in_state live c state answer
+-- the identity of the place now, one of whose credentials serves; or why it can't be named: this is the code's part of a naming
+abbrev pub Finds : Known → Mech → Claim → Result Found Outcome → Type 0
+Finds known mech claim (Ok found) =
+    (naming known mech claim ≡ Ok (record { version = length known.edits; place = found.place; claim = claim }))
+    × (ident known (length known.edits) found.place ≡ Some found.row)
+    × IsSome (chosen mech found.row) × (is_claim_of mech claim ≡ true)
+Finds known mech claim (Err refusal) = naming known mech claim ≡ Err refusal
 
--- the same of a login with the serial that is carried
-pub record IsCarried (live : List (ℕ × Login)) (c : ℕ) (state : StateWord) (serial : ℕ) (l : Login) : Type 0 where
-  pub is : login_of live c ≡ Some l
-  pub same : same_state l.state state ≡ true
-  pub answers : (answer : Login → Answered) (r : Answered) → answer l ≡ r → r ≡ carried_in live c state serial answer
-  pub costs : (cost : Login → ℕ) → carried_cost live c state serial cost ≡ cost l
+-- what a proved login that may log in hands out, or how it is refused: the code's part of an authorization
+abbrev pub Asks : Known → ContextStage → Result Prepared Outcome → Type 0
+Asks known stage (Ok prepared) = (p : Pin) × (stage ≡ Proved p) × (grants known p.version p.place to_log_in ≡ true)
+    × (prepared ≡ prepared_for known (pinned p))
+Asks known stage (Err refusal) = (proved_pin stage ≡ None) × (refusal ≡ outcomes.State (state_of stage))
+    ⊎ ((p : Pin) × (stage ≡ Proved p) × (grants known p.version p.place to_log_in ≡ false) × (refusal ≡ outcomes.Denied p.version))
 
--- the row of a place that can be named now, or why it can't
-abbrev pub Names : List Edit → Place → Result Identity Outcome → Type 0
-Names edits place (Ok row) = (naming_fault edits (length edits) place ≡ None) × (ident edits (length edits) place ≡ Some row) × IsSome (chosen mechs.Plain row)
-Names edits place (Err fault) = naming_fault edits (length edits) place ≡ Some fault
+-- an outcome, and a login after it, are what a step makes of a login that was found, which has the serial that is carried or not
+abbrev pub AnswersBy : Bool → Known → Event → ContextLogin → Outcome → ContextLogin → Type 0
+AnswersBy true known event old outcome new = IsReply (reply known (seen_login old) event) (not_due event) old outcome new
+AnswersBy false known event old outcome new = (outcome ≡ outcomes.Gone) × (new ≡ old)
+
+-- the same of the login's own serial
+abbrev pub Answers : Known → Event → ContextLogin → Outcome → ContextLogin → Type 0
+Answers known event old outcome new = AnswersBy (is_carried (carried event) old.serial) known event old outcome new

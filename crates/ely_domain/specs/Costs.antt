@@ -1,56 +1,69 @@
 -- How many HMAC computations the steps of a history take.
-use Rattle.std.specs.Prelude.{ℕ, ◌+◌, ◌==◌, if◌then◌else◌, List, [], ◌∷◌, Option, Some, None}
-use Rattle.ely_row.specs.declared.edit.Edit.{Edit}
-use Rattle.ely_row.specs.declared.mech.Mech.TheVariants as mechs
-use Rattle.ely_row.specs.Rows.{Identity}
-use Rattle.ely_row.specs.Salts.{plain_derivation}
-use Rattle.ely_cred.specs.Keys.{Keyed, ready_cost}
+use Rattle.std.specs.Prelude.{ℕ, ◌+◌, ◌≤◌, if◌then◌else◌, List, [], ◌∷◌, Option, Some, None}
+use Rattle.ely_row.specs.declared.mech.Mech.{Mech}
+use Rattle.ely_row.specs.Rows.{Row}
+use Rattle.ely_cred.specs.Keys.{Ready, ready_cost}
 use Rattle.ely_cred.specs.Guesses.{guess_cost}
-use Rattle.ely_script.specs.declared.word.StateWord.{StateWord}
-use Rattle.ely_script.specs.declared.word.StateWord.TheVariants as states
-use Rattle.ely_script.specs.Words.{same_state}
+use Rattle.ely_script.specs.declared.claim.Evidence.{Evidence}
+use Rattle.ely_script.specs.declared.claim.Evidence.TheVariants as evidences
+use Rattle.ely_context.specs.declared.stage.Stage.TheVariants.{Loading, Checking}
+use Rattle.ely_context.specs.Logins.{login_of}
 use Rattle.ely_domain.specs.declared.event.Event.{Event}
 use Rattle.ely_domain.specs.declared.event.Event.TheVariants as events
-use Rattle.ely_domain.specs.Machine.{Machine, Given, Login, Pinned, login_of, ident, ready_at, step}
+use Rattle.ely_domain.specs.Given.{Given}
+use Rattle.ely_domain.specs.Identities.{Known, ident, key_at}
+use Rattle.ely_domain.specs.Logins.{Pinned, KnownStage, KnownLogin, Live}
 use Rattle.ely_domain.specs.Lines.{Taken}
+use Rattle.ely_domain.specs.Machine.{Machine, known, step}
+use Rattle.ely_domain.specs.Steps.{carried, is_carried}
 
--- what a login costs that is in the state and has the serial; any other is gone, and costs nothing
-abbrev pub cost_when : StateWord → ℕ → (Login → ℕ) → Option Login → ℕ
-cost_when state serial cost None = 0
-cost_when state serial cost (Some login) = if same_state login.state state then (if login.serial == serial then cost login else 0) else 0
+-- what it takes to derive the key of a row, where there is one
+abbrev pub row_cost : Known → Mech → Option Row → ℕ
+row_cost known mech None = 0
+row_cost known mech (Some row) = ready_cost known.given.config.params mech row
 
-unfoldable pub carried_cost : List (ℕ × Login) → ℕ → StateWord → ℕ → (Login → ℕ) → ℕ
-carried_cost live c state serial cost = cost_when state serial cost (login_of live c)
+-- what it takes to judge evidence with a key: by PLAIN the turns of a salted one
+abbrev pub proof_cost : Option Ready → Evidence → ℕ
+proof_cost None evidence = 0
+proof_cost (Some key) (evidences.Plain password) = guess_cost key.cred
 
--- what it costs to derive the key of a row
-abbrev pub row_cost : Option Identity → ℕ
-row_cost None = 0
-row_cost (Some row) = ready_cost plain_derivation mechs.Plain row
+-- what the second half of a naming takes at a stage: the derivation of the pinned version's key
+abbrev pub naming_cost : Known → KnownLogin → KnownStage → ℕ
+naming_cost known login (Loading pin) = row_cost known login.mech (ident known pin.version pin.place)
+naming_cost known login stage = 0
 
--- what it costs to derive the key of what was pinned
-abbrev pub naming_cost : List Edit → Option Pinned → ℕ
-naming_cost edits None = 0
-naming_cost edits (Some pin) = row_cost (ident edits pin.version pin.place)
+-- what the second half of a check takes at a stage: the trial of what was shown
+abbrev pub check_cost : Known → KnownLogin → KnownStage → ℕ
+check_cost known login (Checking pin key evidence) =
+    proof_cost (key_at known login.mech pin.version pin.place) evidence
+check_cost known login stage = 0
 
--- what it costs to try a password against a key: the turns of a salted one
-abbrev pub key_cost : Option Keyed → ℕ
-key_cost None = 0
-key_cost (Some ready) = guess_cost ready.cred
+-- what a step of a login takes that is there and has the serial
+abbrev pub reply_cost : Known → KnownLogin → Event → ℕ
+reply_cost known login (events.Name2 c serial) = naming_cost known login login.stage
+reply_cost known login (events.Check2 c serial) = check_cost known login login.stage
+reply_cost known login _ = 0
 
-abbrev pub check_cost : List Edit → Option Pinned → ℕ
-check_cost edits None = 0
-check_cost edits (Some pin) = key_cost (ready_at edits pin.version pin.place)
+-- the same where this is found under its id; a step of another login is gone, and takes nothing
+abbrev pub cost_for : Known → Event → Option KnownLogin → ℕ
+cost_for known event None = 0
+cost_for known event (Some login) = if is_carried (carried event) login.serial then reply_cost known login event else 0
 
--- what a step of a login costs: a naming the derivation of its key, a check the trial of its password, and any other step nothing
-abbrev pub login_cost : List Edit → List (ℕ × Login) → Event → ℕ
-login_cost edits live (events.Name2 c serial) = carried_cost live c.0 states.Loading serial.0 (λ l. naming_cost edits l.pin)
-login_cost edits live (events.Check2 c serial) = carried_cost live c.0 states.Checking serial.0 (λ l. check_cost edits l.pin)
-login_cost edits live _ = 0
+-- what a step on the login with this id takes
+abbrev pub login_cost : Known → Live → Event → ℕ → ℕ
+login_cost known live event c = cost_for known event (login_of live.logins c)
 
-unfoldable pub step_cost : Machine → Event → ℕ
-step_cost m event = login_cost m.edits m.live event
+-- what a step of the machine takes: none takes any but the second half of a naming or of a check
+unfoldable pub step_cost : Given → Machine → Event → ℕ
+step_cost given m (events.Name2 c serial) = login_cost (known given m) m.live (events.Name2 c serial) c
+step_cost given m (events.Check2 c serial) = login_cost (known given m) m.live (events.Check2 c serial) c
+step_cost given m _ = 0
 
--- what all steps of a history cost, from a machine on
+-- what all steps of a history take, from a machine on
 abbrev pub cost_from : Given → Machine → List Taken → ℕ
 cost_from given m [] = 0
-cost_from given m (t ∷ ts) = step_cost m t.event + cost_from given (step given m t.event).1 ts
+cost_from given m (t ∷ ts) = step_cost given m t.event + cost_from given (step given m t.event).1 ts
+
+-- a counter rose by this much at most, and never fell
+abbrev pub RoseBy : ℕ → ℕ → ℕ → Type 0
+RoseBy before after cost = (before ≤ after) × (after ≤ before + cost)

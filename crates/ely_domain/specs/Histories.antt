@@ -1,15 +1,17 @@
--- Histories: what each step answers at its point, and when a login is ready to succeed.
-use Rattle.std.specs.Prelude.{ℕ, ◌≡◌, ◌==◌, Bool, true, false, ◌||◌, if◌then◌else◌, List, [], ◌∷◌, ◌++◌, Option, Some, None}
+-- Runs of the machine, and when a login is ready to succeed.
+use Rattle.std.specs.Prelude.{ℕ, ◌≡◌, Bool, true, false, ◌||◌, if◌then◌else◌, List, [], ◌∷◌, ◌++◌, Option, Some, None}
 use Rattle.std.specs.List.{list_any, filter_map}
-use Rattle.ely_domain.specs.declared.event.Event.{Event}
-use Rattle.ely_domain.specs.declared.event.Event.TheVariants as events
 use Rattle.ely_script.specs.declared.outcome.Outcome.{Outcome}
 use Rattle.ely_script.specs.declared.outcome.Outcome.TheVariants as outcomes
 use Rattle.ely_script.specs.declared.word.StepWord.{StepWord}
 use Rattle.ely_script.specs.declared.word.StepWord.TheVariants as words
-use Rattle.ely_script.specs.Words.{is_accepted, same_word}
-use Rattle.ely_domain.specs.Machine.{Machine, Given, step}
-use Rattle.ely_domain.specs.Lines.{Taken, edit_word}
+use Rattle.ely_script.specs.Outcomes.{is_accepted}
+use Rattle.ely_script.specs.Words.{same_word}
+use Rattle.ely_domain.specs.declared.event.Event.{Event}
+use Rattle.ely_domain.specs.Events.{word_of, is_on}
+use Rattle.ely_domain.specs.Given.{Given}
+use Rattle.ely_domain.specs.Lines.{Taken}
+use Rattle.ely_domain.specs.Machine.{Machine, step}
 
 -- each outcome is the machine's at that point
 abbrev pub IsRun : Given → Machine → List Taken → Type 0
@@ -21,35 +23,6 @@ abbrev pub machine_after : Given → Machine → List Taken → Machine
 machine_after given m [] = m
 machine_after given m (t ∷ ts) = machine_after given (step given m t.event).1 ts
 
--- the word of an event, and the login that it is on
-abbrev pub word_of : Event → StepWord
-word_of (events.Bad bad) = words.BadLine
-word_of (events.Change edit) = edit_word edit
-word_of (events.Begin c mech _) = words.Begin
-word_of (events.Name1 c claim) = words.Name1
-word_of (events.Name2 c serial) = words.Name2
-word_of (events.Check1 c serial evidence) = words.Check1
-word_of (events.Check2 c serial) = words.Check2
-word_of (events.Authorize c) = words.Authorize
-word_of (events.Allows c wanted) = words.Allows
-word_of (events.Succeed c) = words.Succeed
-word_of (events.Fail c) = words.Fail
-word_of (events.Close c) = words.Close
-
-abbrev pub is_on : ℕ → Event → Bool
-is_on c (events.Bad bad) = false
-is_on c (events.Change edit) = false
-is_on c (events.Begin d mech _) = d.0 == c
-is_on c (events.Name1 d claim) = d.0 == c
-is_on c (events.Name2 d serial) = d.0 == c
-is_on c (events.Check1 d serial evidence) = d.0 == c
-is_on c (events.Check2 d serial) = d.0 == c
-is_on c (events.Authorize d) = d.0 == c
-is_on c (events.Allows d wanted) = d.0 == c
-is_on c (events.Succeed d) = d.0 == c
-is_on c (events.Fail d) = d.0 == c
-is_on c (events.Close d) = d.0 == c
-
 -- the word of an accepted step on c
 abbrev pub accepted_word : ℕ → Event → Outcome → Option StepWord
 accepted_word c event outcome = if is_on c event then (if is_accepted outcome then Some (word_of event) else None) else None
@@ -58,11 +31,12 @@ accepted_word c event outcome = if is_on c event then (if is_accepted outcome th
 abbrev pub words_on : ℕ → List Taken → List StepWord
 words_on c h = filter_map (λ t. accepted_word c t.event t.outcome) h
 
--- the words after the last open
+-- the words after the last open, of a first word, of those behind it, and of what is after an open among these
 abbrev pub after_open : StepWord → List StepWord → Option (List StepWord) → Option (List StepWord)
 after_open w ws (Some rest) = Some rest
 after_open w ws None = if same_word w words.Begin then Some ws else None
 
+-- the words after the last open
 abbrev pub since_open : List StepWord → Option (List StepWord)
 since_open [] = None
 since_open (w ∷ ws) = after_open w ws (since_open ws)
@@ -73,6 +47,7 @@ left [] ws = []
 left (x ∷ xs) [] = x ∷ xs
 left (x ∷ xs) (w ∷ ws) = if same_word w x then left xs ws else left (x ∷ xs) ws
 
+-- there are no words
 abbrev pub is_empty : List StepWord → Bool
 is_empty [] = true
 is_empty (x ∷ xs) = false
@@ -85,18 +60,22 @@ needed = words.Name1 ∷ words.Name2 ∷ words.Check1 ∷ words.Check2 ∷ words
 abbrev pub is_end : StepWord → Bool
 is_end w = same_word w words.Succeed || (same_word w words.Fail || same_word w words.Close)
 
+-- the needed steps stand in order among the words since an open, and none that ends the login
 abbrev pub is_ready_since : Option (List StepWord) → Bool
 is_ready_since None = false
 is_ready_since (Some rest) = if list_any is_end rest then false else is_empty (left needed rest)
 
--- After the last accepted open of c the needed steps stand in order, and none that ends it.
+-- after the last accepted open of c the needed steps stand in order, and none that ends it
 unfoldable pub is_ready : ℕ → List Taken → Bool
 is_ready c h = is_ready_since (since_open (words_on c h))
 
+-- an identity was established
 abbrev pub is_established : Outcome → Bool
 is_established (outcomes.Established version place roles) = true
 is_established _ = false
 
--- Wherever a succeed of c stands, its outcome is established exactly where c is ready.
+-- wherever a succeed of c stands, its outcome is established exactly where c is ready
 abbrev pub IsEstablishedWhereReady : List Taken → Type 0
-IsEstablishedWhereReady h = (front : List Taken) (t : Taken) (back : List Taken) (c : ℕ) → h ≡ front ++ t ∷ back → word_of t.event ≡ words.Succeed → is_on c t.event ≡ true → is_established t.outcome ≡ is_ready c front
+IsEstablishedWhereReady h = (front : List Taken) (t : Taken) (back : List Taken) (c : ℕ)
+    → h ≡ front ++ t ∷ back → word_of t.event ≡ words.Succeed → is_on c t.event ≡ true
+    → is_established t.outcome ≡ is_ready c front

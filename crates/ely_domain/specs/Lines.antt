@@ -1,113 +1,98 @@
--- The steps of a line, and what they make when nothing comes between them.
-use Rattle.std.specs.Prelude.{ℕ, if◌then◌else◌, List, [], ◌∷◌, Option, None, Ok, Err, unwrap_or}
+-- What a line makes when nothing comes between its steps.
+use Rattle.std.specs.Prelude.{ℕ, ◌≡◌, if◌then◌else◌, List, [], ◌∷◌, Option, Some, None}
 use Rattle.std.specs.Option.{option_map, option_or}
-use Rattle.ely_base.specs.declared.ids.Serial.{Serial}
-use Rattle.ely_row.specs.declared.edit.Edit.{Edit}
-use Rattle.ely_row.specs.declared.edit.Edit.TheVariants as edits
+use Rattle.ely_script.specs.declared.entry.Entry.{Entry}
+use Rattle.ely_script.specs.declared.outcome.Outcome.{Outcome}
+use Rattle.ely_script.specs.declared.outcome.Outcome.TheVariants as outcomes
+use Rattle.ely_script.specs.declared.word.CacheWord.{CacheWord}
+use Rattle.ely_script.specs.Lines.{ScriptLine}
+use Rattle.ely_script.specs.Outcomes.{is_accepted}
+use Rattle.ely_context.specs.Logins.{login_of}
 use Rattle.ely_domain.specs.declared.event.Event.{Event}
 use Rattle.ely_domain.specs.declared.event.Event.TheVariants as events
-use Rattle.ely_script.specs.declared.entry.Entry.{Entry}
-use Rattle.ely_script.specs.declared.command.LineError.TheVariants as errors
-use Rattle.ely_script.specs.declared.command.Verb.{Verb}
-use Rattle.ely_script.specs.declared.command.Verb.TheVariants as verbs
-use Rattle.ely_script.specs.declared.word.StepWord.{StepWord}
-use Rattle.ely_script.specs.declared.word.StepWord.TheVariants as words
-use Rattle.ely_script.specs.declared.claim.Claim.TheVariants as claims
-use Rattle.ely_script.specs.declared.claim.Evidence.TheVariants as evidences
-use Rattle.ely_script.specs.declared.outcome.Outcome.{Outcome}
-use Rattle.ely_script.specs.declared.word.CacheWord.{CacheWord}
-use Rattle.ely_script.specs.Reading.{Line}
-use Rattle.ely_script.specs.Words.{is_accepted, cache_word}
-use Rattle.ely_domain.specs.Machine.{Machine, Given, step}
-use Rattle.ely_domain.specs.Domains.{carrier, serial_given}
+use Rattle.ely_domain.specs.Events.{word_of}
+use Rattle.ely_domain.specs.Given.{Given}
+use Rattle.ely_domain.specs.Keeping.{Kept, word_due, stands_for, kept_after}
+use Rattle.ely_domain.specs.Logins.{Live}
+use Rattle.ely_domain.specs.Machine.{Machine, Stepped, step}
+use Rattle.ely_domain.specs.Parts.{Part, parts_of, event_of}
 
--- the actor of a line
-abbrev pub actor_of : Line → ℕ
-actor_of (Ok command) = command.actor
-actor_of (Err (errors.Bad actor bad)) = actor
-
-abbrev pub edit_word : Edit → StepWord
-edit_word (edits.Add realm name) = words.Add
-edit_word (edits.Remove realm name) = words.Remove
-edit_word (edits.SetCred realm name slot cred) = words.SetCred
-edit_word (edits.DropCred realm name slot) = words.DropCred
-edit_word (edits.SetAttr realm name attr values) = words.SetAttr
-edit_word (edits.DropAttr realm name attr) = words.DropAttr
-
--- the steps of a verb, in order
-abbrev pub verb_words : Verb → List StepWord
-verb_words (verbs.Change edit) = edit_word edit ∷ []
-verb_words (verbs.Begin c mech _) = words.Begin ∷ []
-verb_words (verbs.Plain c message) = words.Name1 ∷ words.Name2 ∷ words.Check1 ∷ words.Check2 ∷ []
-verb_words (verbs.Authorize c) = words.Authorize ∷ []
-verb_words (verbs.Succeed c) = words.Succeed ∷ []
-verb_words (verbs.Fail c) = words.Fail ∷ []
-verb_words (verbs.Close c) = words.Close ∷ []
-verb_words (verbs.Allows c wanted) = words.Allows ∷ []
-
-abbrev pub words_of : Line → List StepWord
-words_of (Ok command) = verb_words command.verb
-words_of (Err error) = words.BadLine ∷ []
-
-abbrev pub serial : Option ℕ → Serial
-serial carried = record { 0 = unwrap_or carried 0 }
-
--- the event of a step of a verb, where the line carries this serial
-abbrev pub verb_event : Verb → StepWord → Option ℕ → Event
-verb_event (verbs.Change edit) word carried = events.Change edit
-verb_event (verbs.Begin c mech opening) word carried = events.Begin c mech opening
-verb_event (verbs.Plain c message) words.Name1 carried = events.Name1 c (claims.Plain message.authzid message.name)
-verb_event (verbs.Plain c message) words.Name2 carried = events.Name2 c (serial carried)
-verb_event (verbs.Plain c message) words.Check1 carried = events.Check1 c (option_map (λ s. record { 0 = s }) carried) (evidences.Plain message.password)
-verb_event (verbs.Plain c message) _ carried = events.Check2 c (serial carried)
-verb_event (verbs.Authorize c) word carried = events.Authorize c
-verb_event (verbs.Succeed c) word carried = events.Succeed c
-verb_event (verbs.Fail c) word carried = events.Fail c
-verb_event (verbs.Close c) word carried = events.Close c
-verb_event (verbs.Allows c wanted) word carried = events.Allows c wanted
-
-abbrev pub event_of : Line → StepWord → Option ℕ → Event
-event_of (Ok command) word carried = verb_event command.verb word carried
-event_of (Err (errors.Bad actor bad)) word carried = events.Bad bad
-
--- a step that was taken, with its event and its answer
+-- a step that was taken
 pub record Taken : Type 0 where
-  pub word : StepWord
   pub event : Event
   pub outcome : Outcome
-  pub cache : CacheWord
 
 -- the step that the machine takes
-abbrev pub taken : Given → Machine → StepWord → Event → Taken
-taken given m word event =
-    let outcome = (step given m event).0 in
-    record { word = word; event = event; outcome = outcome; cache = cache_word outcome }
+abbrev pub taken : Given → Machine → Event → Taken
+taken given m event = record { event = event; outcome = (step given m event).0 }
 
-abbrev pub number_of : Option Serial → Option ℕ
-number_of carried = option_map (λ s. s.0) carried
+-- the serial of the login with this id
+abbrev pub serial_at : Live → ℕ → Option ℕ
+serial_at live c = option_map (λ login. login.serial) (login_of live.logins c)
+
+-- the login whose serial an accepted step of it gives to its line
+abbrev pub carrier : Event → Option ℕ
+carrier (events.Name1 c claim) = Some c
+carrier (events.Check1 c serial evidence) = Some c
+carrier _ = None
+
+-- the serial that an accepted open, name1 or check1 gives
+abbrev pub serial_given : Option ℕ → Outcome → Live → Option ℕ
+serial_given of_login (outcomes.Opened serial challenge) live = Some serial
+serial_given (Some c) (outcomes.Pinned version) live = serial_at live c
+serial_given (Some c) outcomes.Fine live = serial_at live c
+serial_given _ _ live = None
 
 -- the serial that the line carries after a step
-abbrev pub carried_after : Option ℕ → Event → Outcome × Machine → Option ℕ
+abbrev pub carried_after : Option ℕ → Event → Stepped → Option ℕ
 carried_after carried event s = option_or (serial_given (carrier event) s.0 s.1.live) carried
 
--- What is left of a line makes these steps, with nothing between them. A refused step ends the line.
+-- the steps that some parts make, and the machine after them
 abbrev pub Ran : Type 0
 Ran = List Taken × Machine
 
+-- the same with a step before those
 abbrev pub after_first : Taken → Ran → Ran
 after_first first rest = (first ∷ rest.0, rest.1)
 
-unfoldable pub run_words : Given → Machine → Line → Option ℕ → List StepWord → Ran
-run_words given m line carried [] = ([], m)
-run_words given m line carried (word ∷ rest) =
-    let event = event_of line word carried in
+-- a step of an event, and then what is made later: nothing where the step is refused, or where there was no event
+abbrev pub after_event : Given → Machine → Option ℕ → (Machine → Option ℕ → Ran) → Option Event → Ran
+after_event given m carried later None = ([], m)
+after_event given m carried later (Some event) =
     let s = step given m event in
-    after_first (taken given m word event)
-    (if is_accepted s.0 then run_words given s.1 line (carried_after carried event s) rest else ([], s.1))
+    after_first (taken given m event)
+    (if is_accepted s.0 then later s.1 (carried_after carried event s) else ([], s.1))
 
-abbrev pub ran : Given → Machine → Line → Ran
-ran given m line = run_words given m line None (words_of line)
+-- What is left of a line makes these steps. A refused step ends the line, and so does a second half without its serial.
+unfoldable pub run_parts : Given → Machine → Option ℕ → List Part → Ran
+run_parts given m carried [] = ([], m)
+run_parts given m carried (part ∷ rest) =
+    after_event given m carried (λ m' carried'. run_parts given m' carried' rest) (event_of part carried)
 
--- the entry of a step
-abbrev pub entry_at : ℕ → ℕ → Taken → Entry
-entry_at actor line t = record { actor = actor; line = line; word = t.word; outcome = t.outcome; cache = t.cache }
+-- the whole line
+abbrev pub ran : Given → Machine → ScriptLine → Ran
+ran given m line = run_parts given m None (parts_of line)
+
+-- the entry of a step of an actor's line, with the word that was shown behind it
+abbrev pub entry_at : ℕ → ℕ → Taken → CacheWord → Entry
+entry_at actor line t shown =
+    record { actor = actor; line = line; word = word_of t.event; outcome = t.outcome; cache = shown }
+
+-- the entries of steps of one line, with a word for each
+abbrev pub entries_at : ℕ → ℕ → List Taken → List CacheWord → List Entry
+entries_at actor line (t ∷ ts) (shown ∷ words) = entry_at actor line t shown ∷ entries_at actor line ts words
+entries_at actor line _ _ = []
+
+-- these words were shown behind these steps: each stands for the one that is due
+abbrev pub AreShown : Given → Machine → Kept → List Taken → List CacheWord → Type 0
+AreShown given m kept [] [] = Unit {0}
+AreShown given m kept (t ∷ ts) (shown ∷ words) =
+    (stands_for shown ≡ word_due given m kept t.event t.outcome)
+    × AreShown given (step given m t.event).1 (kept_after given m kept t.event t.outcome shown) ts words
+AreShown given m kept _ _ = ⊥
+
+-- what is kept after steps behind which these words were shown
+abbrev pub kept_past : Given → Machine → Kept → List Taken → List CacheWord → Kept
+kept_past given m kept (t ∷ ts) (shown ∷ words) =
+    kept_past given (step given m t.event).1 (kept_after given m kept t.event t.outcome shown) ts words
+kept_past given m kept _ _ = kept

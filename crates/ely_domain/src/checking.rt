@@ -1,14 +1,14 @@
-//! Checking a login in two steps: what it shows, and whether that holds for its key.
+//! Checking a login in two steps: what it shows, and whether that proves its key.
 
-ghost use Rattle.std.specs.Prelude.{◌≡◌, ◌≤◌, ◌+◌, List, IfSome};
-ghost use Rattle.std.specs.Option.{option_map};
-ghost use Rattle.ely_row.specs.declared.edit.Edit.{Edit};
-ghost use Rattle.ely_domain.specs.Machine.{is_carried, is_proved, checked_first, check1, check2};
-ghost use Rattle.ely_domain.specs.Costs.{carried_cost, check_cost, key_cost};
-ghost use Rattle.ely_domain.specs.Contexts.{login, logins, AreSound};
+ghost use Rattle.std.specs.Prelude.{◌≡◌, true, false, Some};
+ghost use Rattle.ely_domain.specs.Contexts.{HoldsIts, IsReply, StaysSound, read_of, seen_login};
+ghost use Rattle.ely_domain.specs.Costs.{RoseBy, proof_cost, check_cost};
+ghost use Rattle.ely_domain.specs.Identities.{Known};
+ghost use Rattle.ely_domain.specs.Steps.{is_evidence_of, check1, check2};
+ghost use Rattle.ely_domain.specs.Verdicts.{verdict};
 
-use crate::context::{Context, context_carried, context_in, context_of, set_evidence, set_state};
-use ely_base::{CtxId, Serial};
+use ely_config::Config;
+use ely_context::Context;
 use ely_cred::{Ready, guess};
 use ely_hash::Steps;
 use ely_row::Mech;
@@ -16,85 +16,84 @@ use ely_script::{Evidence, Outcome, StateWord};
 use ely_table::Tables;
 use std::sync::ledger::Ledger;
 
-/// Whether the evidence fits the key.
-fn is_proved<L: Ledger>(
-    ready: &Option<Ready>,
-    evidence: &Option<Evidence>,
-    steps: &mut Steps<L>,
-) -> bool
-    requires { IfSome ready.now (λ r. r.mech ≡ Mech.Plain) }
-    ensures value { result ≡ is_proved ready.now evidence.now }
-    ensures least { steps.old ≤ steps.new }
-    ensures most { steps.new ≤ steps.old + key_cost ready.now }
+/// Whether evidence is of that mechanism.
+fn is_evidence_of(mech: Mech, evidence: &Evidence) -> bool
+    ensures { result ≡ is_evidence_of mech evidence.now }
 {
-    match (ready, evidence) {
-        (Some(ready), Some(Evidence::Plain { password })) => {
-            guess(ready, password.bytes(), steps)
-        }
+    match (mech, evidence) {
+        (Mech::Plain, Evidence::Plain { .. }) => true,
         _ => false,
     }
 }
 
-fn is_carried(serial: Option<Serial>, found: Option<&Context>) -> bool
-    ensures { result ≡ is_carried (option_map (λ s. s.0) serial) (option_map (λ x. (login x.now).1) found.entry) }
+/// What a login is told that shows something of another mechanism than its own.
+fn of_other_mech(context: &Context) -> Outcome
+    ensures { (evidence : Evidence) → is_evidence_of context.now.mech evidence ≡ false
+        → IsReply (check1 (seen_login context.now) evidence (seen_login context.now).stage)
+        Outcome.State context.now result context.now }
 {
-    match (serial, found) {
-        (None, _) => true,
-        (Some(_), None) => false,
-        (Some(serial), Some(context)) => context.serial == serial.0,
+    match context.state() {
+        StateWord::Named => Outcome::Mechanism(context.mech()),
+        state => Outcome::State(state),
     }
 }
 
-/// The first half of a check.
-fn checked_first(contexts: &mut [Context], id: CtxId, evidence: Evidence) -> Outcome
-    ensures ok { (result, logins contexts.new) ≡ checked_first (logins contexts.old) id.0 evidence }
-    ensures sound { (edits : List Edit) → AreSound edits contexts.old → AreSound edits contexts.new }
+/// Keeps what a named login shows.
+pub(crate) fn check1(context: &mut Context, evidence: Evidence) -> Outcome
+    ensures reply { IsReply
+        (check1 (seen_login context.old) evidence (seen_login context.old).stage)
+        Outcome.State context.old result context.new }
+    ensures sound { (known : Known) → StaysSound known context.old context.new }
 {
-    let context = match context_in(contexts, id, StateWord::Named) {
-        Ok(context) => context,
-        Err(refusal) => return refusal,
-    };
-    set_evidence(contexts, id, evidence);
-    Outcome::Fine
-}
-
-/// The first half of a check, of the login that the line carries, if it carries one.
-pub fn check1(
-    contexts: &mut [Context],
-    id: CtxId,
-    serial: Option<Serial>,
-    evidence: Evidence,
-) -> Outcome
-    ensures ok { (result, logins contexts.new) ≡ check1 (logins contexts.old) id.0 (option_map (λ s. s.0) serial) evidence }
-    ensures sound { (edits : List Edit) → AreSound edits contexts.old → AreSound edits contexts.new }
-{
-    if !is_carried(serial, context_of(contexts, id)) {
-        return Outcome::Gone;
+    if !is_evidence_of(context.mech(), &evidence) {
+        return of_other_mech(context);
     }
-    checked_first(contexts, id, evidence)
+    match context.check1(evidence) {
+        Ok(()) => Outcome::Fine,
+        Err((state, _)) => Outcome::State(state),
+    }
 }
 
-/// The second half of a check.
-pub fn check2<L: Ledger>(
+/// The verdict on what was shown.
+fn judge<L: Ledger>(ready: &Ready, evidence: &Evidence, steps: &mut Steps<L>) -> Outcome
+    requires { is_evidence_of ready.now.mech evidence.now ≡ true }
+    ensures value { result ≡ verdict (Some ready.now) evidence.now }
+    ensures cost { RoseBy steps.old steps.new (proof_cost (Some ready.now) evidence.now) }
+{
+    match evidence {
+        Evidence::Plain { password } => {
+            if guess(ready, password.bytes(), steps) {
+                Outcome::Proved(None)
+            } else {
+                Outcome::Password
+            }
+        }
+    }
+}
+
+/// Judges what a login showed.
+pub(crate) fn check2<L: Ledger>(
+    config: &Config,
     tables: &Tables,
-    contexts: &mut [Context],
-    id: CtxId,
-    serial: Serial,
+    context: &mut Context,
     steps: &mut Steps<L>,
 ) -> Outcome
-    requires { AreSound tables.now.journal contexts.old }
-    ensures ok { (result, logins contexts.new) ≡ check2 tables.now.journal (logins contexts.old) id.0 serial.0 }
-    ensures sound { AreSound tables.now.journal contexts.new }
-    ensures least { steps.old ≤ steps.new }
-    ensures most { steps.new ≤ steps.old + carried_cost (logins contexts.old) id.0 StateWord.Checking serial.0 (λ l. check_cost tables.now.journal l.pin) }
+    requires { HoldsIts (read_of config.now tables.now) context.old.mech context.old.stage }
+    ensures reply { IsReply
+        (check2 (read_of config.now tables.now) (seen_login context.old)
+        (seen_login context.old).stage)
+        (λ state. Outcome.Gone) context.old result context.new }
+    ensures sound { StaysSound (read_of config.now tables.now) context.old context.new }
+    ensures cost { RoseBy steps.old steps.new
+        (check_cost (read_of config.now tables.now) (seen_login context.old)
+        (seen_login context.old).stage) }
 {
-    let Some(context) = context_carried(contexts, id, StateWord::Checking, serial) else {
+    let Some((ready, evidence)) = context.checking() else {
         return Outcome::Gone;
     };
-    if !is_proved(&context.ready, &context.evidence, steps) {
-        set_state(contexts, id, StateWord::Failed);
-        return Outcome::Password;
+    let outcome = judge(ready, evidence, steps);
+    match context.check2(outcome.is_accepted()) {
+        Ok(()) => outcome,
+        Err(_) => Outcome::Gone,
     }
-    set_state(contexts, id, StateWord::Proved);
-    Outcome::Proved(None)
 }

@@ -1,25 +1,27 @@
 //! The domain: one step of it is one step of the machine that it stands for.
 
-ghost use Rattle.std.specs.Prelude.{◌≡◌, ◌<◌, ◌≤◌, ◌+◌, ◌^◌, ◌-◌, [], length, IfOk, OnErr, IsOk};
-ghost use Rattle.std.specs.Option.{option_map};
-ghost use Rattle.ely_row.specs.Salts.{plain_derivation};
+ghost use Rattle.std.specs.Prelude.{◌≡◌, ◌<◌, ◌≤◌, ◌^◌, ◌-◌, [], IfOk, OnErr, IsOk, length};
+ghost use Rattle.ely_context.specs.Logins.{state_at};
+ghost use Rattle.ely_domain.specs.Contexts.{IsSound, read_of, seen_live};
+ghost use Rattle.ely_domain.specs.Costs.{RoseBy, login_cost, step_cost};
+ghost use Rattle.ely_domain.specs.Domains.{IsLoginStep, TakesNoMemory, first_seen};
+ghost use Rattle.ely_domain.specs.Given.{Given, realms, nonce_of};
+ghost use Rattle.ely_domain.specs.Keeping.{Kept, word_due, stands_for, kept_after};
+ghost use Rattle.ely_domain.specs.Lines.{carrier, serial_given, serial_at};
+ghost use Rattle.ely_domain.specs.declared.event.Event.{Event};
+ghost use Rattle.ely_domain.specs.Machine.{Machine, change, begin, opening_fault, closed, answered, with_answered, known, step};
 ghost use Rattle.ely_table.specs.Faults.{fault};
-ghost use Rattle.ely_domain.specs.Machine.{realms, changed, begin, close, login_answer, of_logins, state_of, step};
-ghost use Rattle.ely_domain.specs.Costs.{login_cost, step_cost};
-ghost use Rattle.ely_domain.specs.Contexts.{logins, AreSound};
-ghost use Rattle.ely_script.specs.Words.{cache_word};
-ghost use Rattle.ely_domain.specs.Domains.{IsOfLogin, TakesNoMemory, carrier, serial_at, serial_given};
 
-use crate::checking::{check1, check2};
-use crate::closing::{close, fail};
-use crate::context::{Context, context_of};
 use crate::event::{Answer, Event};
-use crate::granting::{allows, authorize, succeed};
-use crate::naming::{main_realm, name1, name2};
-use ely_base::{CtxId, Name, NoMemory, Refused, Serial, Version};
+use crate::handouts::Handouts;
+use crate::login_step::login_step;
+use crate::naming::main_realm;
+use ely_base::{Bytes, CtxId, Name, NoMemory, Refused, Serial, Version};
+use ely_config::Config;
+use ely_context::{Context, Logins};
 use ely_hash::Steps;
-use ely_row::{Edit, Params};
-use ely_script::{Outcome, StateWord};
+use ely_row::{Edit, Mech};
+use ely_script::{CacheWord, Outcome, StateWord};
 use ely_table::{RealmClass, Tables};
 use std::alloc::Global;
 use std::marker::Model;
@@ -28,56 +30,97 @@ use std::sync::ledger::Ledger;
 /// The most edits of a journal.
 pub const JOURNAL_LIMIT: u32 = 131072;
 
-/// The tables of the realms with their journal, how keys are derived, and the logins that are live.
+/// The most logins that are live at once.
+const LOGINS_LIMIT: usize = 4096;
+
+/// The tables of the realms with their journal, the configuration, and the logins that are live with what the authorized
+/// ones among them hand out.
 #[derive(Drop)]
 pub struct Domain {
     tables: Tables,
-    params: Params,
-    contexts: Vec<Context>,
+    config: Config,
+    logins: Logins,
+    handouts: Handouts,
     opened: u64,
 }
 
 impl Model for Domain {
     ghost use Rattle.ely_domain.specs.Domains.{Seen};
     ghost use Rattle.std.specs.Prelude.{◌≡◌};
-    ghost use Rattle.ely_row.specs.Salts.{plain_derivation};
-    ghost use Rattle.ely_domain.specs.Machine.{realms};
-    ghost use Rattle.ely_domain.specs.Contexts.{logins, AreSound};
+    ghost use Rattle.ely_domain.specs.Given.{realms};
+    ghost use Rattle.ely_domain.specs.Contexts.{IsSound, read_of, seen_live};
 
     ghost Value = { Seen };
 
     ghost view = { λ d. record {
-      given = record { limit = d.tables.limit };
-      machine = record { edits = d.tables.journal; live = logins d.contexts.items; opened = d.opened };
+      given = record { config = d.config; limit = d.tables.limit };
+      machine = record { edits = d.tables.journal; live = seen_live d.logins; opened = d.opened };
+      kept = tt;
     } };
 
-    ghost invariant = { λ d. (d.tables.realms ≡ realms) × (d.params ≡ plain_derivation) × AreSound d.tables.journal d.contexts.items };
+    ghost invariant = { λ d. (d.tables.realms ≡ realms (record { config = d.config; limit = d.tables.limit }))
+        × IsSound (read_of d.config d.tables) d.logins d.handouts };
 }
 
 /// The tables of the one realm that there is.
 fn main_tables(alloc: Global, journal_limit: u32) -> Result<Tables, NoMemory>
     requires some { 1 ≤ journal_limit }
     requires most { journal_limit ≤ 131072 }
-    ensures { IfOk result (λ tables. tables ≡ record { realms = realms; limit = journal_limit; journal = [] }) }
+    ensures { (given : Given) → IfOk result (λ tables. tables
+        ≡ record { realms = realms given; limit = journal_limit; journal = [] }) }
 {
     let mut realms: Vec<(Name, RealmClass)> = Vec::new(alloc);
     realms.push((main_realm(alloc)?, RealmClass::Modifiable))?;
     Tables::new(alloc, realms, journal_limit)
 }
 
-impl Domain {
-    ghost use Rattle.ely_domain.specs.Machine.{first_machine};
+/// The nonce of an open that brings this one or none.
+fn nonce_of(alloc: Global, mech: Mech, serial: u64, brought: Option<Bytes>) -> Bytes
+    ensures { (given : Given) → result ≡ nonce_of given mech serial brought }
+{
+    match brought {
+        Some(nonce) => nonce,
+        None => Bytes::of(Vec::new(alloc)),
+    }
+}
 
-    /// A domain without edits and logins, whose journal takes `journal_limit` edits, from 1 to 131,072.
-    pub fn new(alloc: Global, journal_limit: u32) -> Result<Domain, NoMemory>
+/// Why no login can be opened under this id.
+fn opening_fault(logins: &Logins, id: CtxId) -> Option<Outcome>
+    ensures { result ≡ opening_fault (seen_live logins.now) id }
+{
+    if logins.find(id).is_some() {
+        return Some(Outcome::InUse);
+    }
+    if logins.len() >= LOGINS_LIMIT {
+        return Some(Outcome::ContextsFull);
+    }
+    None
+}
+
+/// The word behind an outcome, where no realm keeps keys.
+fn word_due(outcome: &Outcome) -> CacheWord
+    ensures { (given : Given) (m : Machine) (kept : Kept) (event : Event)
+        → stands_for result ≡ word_due given m kept event outcome.now }
+{
+    match outcome {
+        Outcome::Pinned(_) | Outcome::Named | Outcome::Challenge(_) => CacheWord::Dash,
+        _ => CacheWord::None,
+    }
+}
+
+impl Domain {
+    /// A domain of this configuration without edits and logins, whose journal takes `journal_limit` edits, from 1 to 131,072.
+    pub fn new(alloc: Global, config: Config, journal_limit: u32) -> Result<Domain, NoMemory>
         requires some { 1 ≤ journal_limit }
         requires most { journal_limit ≤ 131072 }
-        ensures { IfOk result (λ domain. domain ≡ record { given = record { limit = journal_limit }; machine = first_machine }) }
+        ensures { IfOk result (λ domain. domain
+            ≡ first_seen (record { config = config; limit = journal_limit })) }
     {
         Ok(Domain {
             tables: main_tables(alloc, journal_limit)?,
-            params: Params::plain(alloc),
-            contexts: Vec::new(alloc),
+            config,
+            logins: Logins::new(alloc),
+            handouts: Handouts::new(alloc),
             opened: 0,
         })
     }
@@ -91,24 +134,33 @@ impl Domain {
 
     /// How many edits were accepted.
     pub fn version(&self) -> Version
-        ensures { result.0 ≡ length self.now.machine.edits }
+        ensures { result ≡ length self.now.machine.edits }
     {
         self.tables.version()
     }
 
+    /// The configuration that the domain was made with.
+    pub fn config(&self) -> &Config
+        ensures { result.now ≡ self.now.given.config }
+    {
+        &self.config
+    }
+
     /// The state of the login with this id.
     pub fn state(&self, id: CtxId) -> StateWord
-        ensures { result ≡ state_of self.now.machine.live id.0 }
+        ensures { result ≡ state_at self.now.machine.live.logins id }
     {
-        match context_of(&self.contexts, id) {
+        match self.logins.find(id) {
             None => StateWord::Absent,
-            Some(context) => context.state,
+            Some(context) => context.state(),
         }
     }
 
     /// Makes an edit, or refuses it.
     fn change(&mut self, alloc: Global, edit: Edit) -> Result<Outcome, NoMemory>
-        ensures ok { IfOk result (λ outcome. (outcome, self.new.machine) ≡ changed self.old.machine edit (fault realms self.old.given.limit self.old.machine.edits edit)) }
+        ensures ok { IfOk result (λ outcome. (outcome, self.new.machine)
+            ≡ change self.old.machine edit
+            (fault (realms self.old.given) self.old.given.limit self.old.machine.edits edit)) }
         ensures given { self.new.given ≡ self.old.given }
         ensures err { OnErr result (self.new ≡ self.old) }
     {
@@ -119,63 +171,73 @@ impl Domain {
         }
     }
 
-    fn begin(&mut self, id: CtxId) -> Result<Outcome, NoMemory>
+    /// Opens a login, where its id isn't live and there is room.
+    fn begin(
+        &mut self,
+        alloc: Global,
+        id: CtxId,
+        mech: Mech,
+        brought: Option<Bytes>,
+    ) -> Result<Outcome, NoMemory>
         requires { self.old.machine.opened < 2 ^ 64 - 1 }
-        ensures ok { IfOk result (λ outcome. (outcome, self.new.machine) ≡ begin self.old.machine id.0) }
+        ensures ok { IfOk result (λ outcome. (outcome, self.new.machine)
+            ≡ begin self.old.given self.old.machine id mech brought) }
         ensures given { self.new.given ≡ self.old.given }
         ensures err { OnErr result (self.new ≡ self.old) }
     {
-        if context_of(&self.contexts, id).is_some() {
-            return Ok(Outcome::InUse);
+        if let Some(fault) = opening_fault(&self.logins, id) {
+            return Ok(fault);
         }
-        if self.contexts.len() >= 4096 {
-            return Ok(Outcome::ContextsFull);
-        }
-        let serial = self.opened + 1;
-        self.contexts.push(Context {
-            id: id.0,
-            serial,
-            state: StateWord::Fresh,
-            pin: None,
-            ready: None,
-            evidence: None,
-            prepared: None,
-        })?;
-        self.opened = serial;
+        let serial = Serial(self.opened + 1);
+        let nonce = nonce_of(alloc, mech, self.opened + 1, brought);
+        self.logins.open(id, Context::begin(serial, mech, nonce))?;
+        self.opened += 1;
         Ok(Outcome::Opened {
-            serial: Serial(serial),
+            serial,
             challenge: None,
         })
     }
 
-    /// Closes a login.
-    fn close_login(&mut self, id: CtxId) -> Outcome
-        ensures ok { (result, self.new.machine) ≡ of_logins self.old.machine (close self.old.machine.live id.0) }
+    /// Closes a login in whatever state it is.
+    #[tactic(auto, unfolding(crate::specs::Machine::closed))]
+    fn close(&mut self, id: CtxId) -> Outcome
+        ensures ok { (result, self.new.machine)
+            ≡ with_answered self.old.machine (closed self.old.machine.live id) }
         ensures given { self.new.given ≡ self.old.given }
     {
-        close(&mut self.contexts, id)
+        let _ = self.handouts.take(id);
+        if self.logins.close(id) {
+            Outcome::Fine
+        } else {
+            Outcome::State(StateWord::Absent)
+        }
     }
 
-    /// What the domain answers to a step of a login that is there.
-    fn login_step<L: Ledger>(
+    /// Makes a step of a login.
+    fn step_login<L: Ledger>(
         &mut self,
         alloc: Global,
+        id: CtxId,
         event: Event,
         steps: &mut Steps<L>,
     ) -> Result<Outcome, NoMemory>
-        requires { IsOfLogin event }
-        ensures ok { IfOk result (λ outcome. (outcome, self.new.machine) ≡ of_logins self.old.machine (login_answer self.old.machine.edits self.old.machine.live event)) }
+        requires { IsLoginStep event }
+        ensures ok { IfOk result (λ outcome. (outcome, self.new.machine)
+            ≡ with_answered self.old.machine
+            (answered (known self.old.given self.old.machine) self.old.machine.live event id)) }
         ensures given { self.new.given ≡ self.old.given }
         ensures err { OnErr result (self.new ≡ self.old) }
-        ensures sure { TakesNoMemory event → IsOk result }
-        ensures least { steps.old ≤ steps.new }
-        ensures most { steps.new ≤ steps.old + login_cost self.old.machine.edits self.old.machine.live event }
+        ensures takes_no_memory { TakesNoMemory event → IsOk result }
+        ensures cost { RoseBy steps.old steps.new
+            (login_cost (known self.old.given self.old.machine) self.old.machine.live event id) }
     {
-        answer_login(
+        login_step(
             alloc,
-            &self.params,
+            &self.config,
             &self.tables,
-            self.contexts.as_mut_slice(),
+            &mut self.logins,
+            &mut self.handouts,
+            id,
             event,
             steps,
         )
@@ -190,36 +252,46 @@ impl Domain {
         steps: &mut Steps<L>,
     ) -> Result<Outcome, NoMemory>
         requires { self.old.machine.opened < 2 ^ 64 - 1 }
-        ensures ok { IfOk result (λ outcome. (outcome, self.new.machine) ≡ step self.old.given self.old.machine event) }
+        ensures ok { IfOk result (λ outcome. (outcome, self.new.machine)
+            ≡ step self.old.given self.old.machine event) }
         ensures given { self.new.given ≡ self.old.given }
         ensures err { OnErr result (self.new ≡ self.old) }
-        ensures sure { TakesNoMemory event → IsOk result }
-        ensures least { steps.old ≤ steps.new }
-        ensures most { steps.new ≤ steps.old + step_cost self.old.machine event }
+        ensures takes_no_memory { TakesNoMemory event → IsOk result }
+        ensures cost { RoseBy steps.old steps.new
+            (step_cost self.old.given self.old.machine event) }
     {
         match event {
             Event::Bad { bad } => Ok(Outcome::Bad(bad)),
             Event::Change { edit } => self.change(alloc, edit),
-            Event::Begin { ctx, .. } => self.begin(ctx),
-            Event::Close { ctx } => Ok(self.close_login(ctx)),
-            event => self.login_step(alloc, event, steps),
+            Event::Begin { ctx, mech, nonce } => self.begin(alloc, ctx, mech, nonce),
+            Event::Close { ctx } => Ok(self.close(ctx)),
+            Event::Name1 { ctx, .. }
+            | Event::Name2 { ctx, .. }
+            | Event::Check1 { ctx, .. }
+            | Event::Check2 { ctx, .. }
+            | Event::Authorize { ctx }
+            | Event::Allows { ctx, .. }
+            | Event::Succeed { ctx }
+            | Event::Fail { ctx } => self.step_login(alloc, ctx, event, steps),
         }
     }
 
-    fn serial_of(&self, id: CtxId) -> Option<Serial>
-        ensures { option_map (λ s. s.0) result ≡ serial_at self.now.machine.live id.0 }
+    /// The serial of the login with this id.
+    fn serial_at(&self, id: CtxId) -> Option<Serial>
+        ensures { result ≡ serial_at self.now.machine.live id }
     {
-        let context = context_of(&self.contexts, id)?;
-        Some(Serial(context.serial))
+        let context = self.logins.find(id)?;
+        Some(context.serial())
     }
 
-    fn serial_given(&self, login: Option<CtxId>, outcome: &Outcome) -> Option<Serial>
-        ensures { option_map (λ s. s.0) result ≡ serial_given (option_map (λ c. c.0) login) outcome.now self.now.machine.live }
+    /// The serial that an answer gives to its line.
+    fn serial_given(&self, of_login: Option<CtxId>, outcome: &Outcome) -> Option<Serial>
+        ensures { result ≡ serial_given of_login outcome.now self.now.machine.live }
     {
-        match (login, outcome) {
+        match (of_login, outcome) {
             (_, Outcome::Opened { serial, .. }) => Some(*serial),
-            (Some(id), Outcome::Pinned(_)) => self.serial_of(id),
-            (Some(id), Outcome::Fine) => self.serial_of(id),
+            (Some(id), Outcome::Pinned(_)) => self.serial_at(id),
+            (Some(id), Outcome::Fine) => self.serial_at(id),
             _ => None,
         }
     }
@@ -233,63 +305,28 @@ impl Domain {
         steps: &mut Steps<L>,
     ) -> Result<Answer, NoMemory>
         requires { self.old.machine.opened < 2 ^ 64 - 1 }
-        ensures answer { IfOk result (λ answer. (answer.outcome, self.new.machine) ≡ step self.old.given self.old.machine event) }
-        ensures cache { IfOk result (λ answer. answer.cache ≡ cache_word answer.outcome) }
-        ensures serial { IfOk result (λ answer. option_map (λ s. s.0) answer.serial ≡ serial_given (carrier event) answer.outcome self.new.machine.live) }
+        ensures answer { IfOk result (λ answer. (answer.outcome, self.new.machine)
+            ≡ step self.old.given self.old.machine event) }
+        ensures word { IfOk result (λ answer. stands_for answer.cache
+            ≡ word_due self.old.given self.old.machine self.old.kept event answer.outcome) }
+        ensures kept { IfOk result (λ answer. self.new.kept
+            ≡ kept_after self.old.given self.old.machine self.old.kept event answer.outcome answer.cache) }
+        ensures serial { IfOk result (λ answer. answer.serial
+            ≡ serial_given (carrier event) answer.outcome self.new.machine.live) }
         ensures given { self.new.given ≡ self.old.given }
         ensures err { OnErr result (self.new ≡ self.old) }
-        ensures sure { TakesNoMemory event → IsOk result }
-        ensures least { steps.old ≤ steps.new }
-        ensures most { steps.new ≤ steps.old + step_cost self.old.machine event }
+        ensures takes_no_memory { TakesNoMemory event → IsOk result }
+        ensures cost { RoseBy steps.old steps.new
+            (step_cost self.old.given self.old.machine event) }
     {
-        let login = event.carrier();
+        let of_login = event.carrier();
         let outcome = self.answer(alloc, event, steps)?;
-        let cache = outcome.cache_word();
-        let serial = self.serial_given(login, &outcome);
+        let cache = word_due(&outcome);
+        let serial = self.serial_given(of_login, &outcome);
         Ok(Answer {
             outcome,
             cache,
             serial,
         })
-    }
-}
-
-/// What is answered to a step of a login.
-fn answer_login<L: Ledger>(
-    alloc: Global,
-    params: &Params,
-    tables: &Tables,
-    contexts: &mut [Context],
-    event: Event,
-    steps: &mut Steps<L>,
-) -> Result<Outcome, NoMemory>
-    requires login { IsOfLogin event }
-    requires plain { params.now ≡ plain_derivation }
-    requires sound { AreSound tables.now.journal contexts.old }
-    ensures ok { IfOk result (λ outcome. (outcome, logins contexts.new) ≡ login_answer tables.now.journal (logins contexts.old) event) }
-    ensures sound { AreSound tables.now.journal contexts.new }
-    ensures err { OnErr result (contexts.new ≡ contexts.old) }
-    ensures sure { TakesNoMemory event → IsOk result }
-    ensures least { steps.old ≤ steps.new }
-    ensures most { steps.new ≤ steps.old + login_cost tables.now.journal (logins contexts.old) event }
-{
-    match event {
-        Event::Name1 { ctx, claim } => name1(alloc, tables, contexts, ctx, claim),
-        Event::Name2 { ctx, serial } => {
-            name2(alloc, params, tables, contexts, ctx, serial, steps)
-        }
-        Event::Check1 {
-            ctx,
-            serial,
-            evidence,
-        } => Ok(check1(contexts, ctx, serial, evidence)),
-        Event::Check2 { ctx, serial } => Ok(check2(tables, contexts, ctx, serial, steps)),
-        Event::Authorize { ctx } => authorize(alloc, tables, contexts, ctx),
-        Event::Allows { ctx, wanted } => Ok(allows(contexts, ctx, &wanted)),
-        Event::Succeed { ctx } => Ok(succeed(tables, contexts, ctx)),
-        Event::Fail { ctx } => Ok(fail(contexts, ctx)),
-        Event::Bad { .. } | Event::Change { .. } | Event::Begin { .. } | Event::Close { .. } => {
-            unreachable!()
-        }
     }
 }

@@ -1,22 +1,25 @@
 //! The steps of the domain, and its answers.
 
 ghost use Rattle.std.specs.Prelude.{◌≡◌};
-ghost use Rattle.std.specs.Option.{option_map};
-ghost use Rattle.ely_domain.specs.Domains.{carrier};
+ghost use Rattle.ely_domain.specs.Events.{edit_word, word_of};
+ghost use Rattle.ely_domain.specs.Lines.{carrier};
+ghost use Rattle.ely_domain.specs.Steps.{carried, is_carried, not_there};
 
 use ely_base::{Bytes, CtxId, Serial};
 use ely_row::{Edit, Mech};
-use ely_script::{BadLine, CacheWord, Claim, Evidence, Outcome};
+use ely_script::{BadLine, CacheWord, Claim, Evidence, Outcome, StateWord, StepWord};
 
 /// One step of the domain.
 #[derive(Drop)]
 pub enum Event {
+    /// A line that can't be read.
     Bad {
         bad: BadLine,
     },
     Change {
         edit: Edit,
     },
+    /// A login is opened, with the nonce that the line brings.
     Begin {
         ctx: CtxId,
         mech: Mech,
@@ -30,6 +33,7 @@ pub enum Event {
         ctx: CtxId,
         serial: Serial,
     },
+    /// What a login shows; with the serial of its line's own name1, where it has one.
     Check1 {
         ctx: CtxId,
         serial: Option<Serial>,
@@ -57,7 +61,8 @@ pub enum Event {
     },
 }
 
-/// What the domain answers to a step.
+/// What the domain answers to a step: the outcome, the word of what is kept, and the login's serial where an accepted open,
+/// name1 or check1 gives it to its line.
 #[derive(Drop)]
 pub struct Answer {
     pub outcome: Outcome,
@@ -65,15 +70,82 @@ pub struct Answer {
     pub serial: Option<Serial>,
 }
 
+/// The word of an edit.
+fn edit_word(edit: &Edit) -> StepWord
+    ensures { result ≡ edit_word edit.now }
+{
+    match edit {
+        Edit::Add { .. } => StepWord::Add,
+        Edit::Remove { .. } => StepWord::Remove,
+        Edit::SetCred { .. } => StepWord::SetCred,
+        Edit::DropCred { .. } => StepWord::DropCred,
+        Edit::SetAttr { .. } => StepWord::SetAttr,
+        Edit::DropAttr { .. } => StepWord::DropAttr,
+    }
+}
+
 impl Event {
-    /// The login whose serial an accepted step of it gives.
-    pub fn carrier(&self) -> Option<CtxId>
-        ensures { option_map (λ c. c.0) result ≡ carrier self.now }
+    /// The word by which the step is printed.
+    pub fn word(&self) -> StepWord
+        ensures { result ≡ word_of self.now }
+    {
+        match self {
+            Event::Bad { .. } => StepWord::BadLine,
+            Event::Change { edit } => edit_word(edit),
+            Event::Begin { .. } => StepWord::Begin,
+            Event::Name1 { .. } => StepWord::Name1,
+            Event::Name2 { .. } => StepWord::Name2,
+            Event::Check1 { .. } => StepWord::Check1,
+            Event::Check2 { .. } => StepWord::Check2,
+            Event::Authorize { .. } => StepWord::Authorize,
+            Event::Allows { .. } => StepWord::Allows,
+            Event::Succeed { .. } => StepWord::Succeed,
+            Event::Fail { .. } => StepWord::Fail,
+            Event::Close { .. } => StepWord::Close,
+        }
+    }
+
+    /// The login whose serial an accepted step of it gives to its line.
+    pub(crate) fn carrier(&self) -> Option<CtxId>
+        ensures { result ≡ carrier self.now }
     {
         match self {
             Event::Name1 { ctx, .. } => Some(*ctx),
             Event::Check1 { ctx, .. } => Some(*ctx),
             _ => None,
+        }
+    }
+
+    /// The serial that the step carries: it is one of the open with that serial.
+    pub(crate) fn carried(&self) -> Option<Serial>
+        ensures { result ≡ carried self.now }
+    {
+        match self {
+            Event::Name2 { serial, .. } => Some(*serial),
+            Event::Check1 { serial, .. } => *serial,
+            Event::Check2 { serial, .. } => Some(*serial),
+            _ => None,
+        }
+    }
+
+    /// What is answered where there is no login.
+    pub(crate) fn not_there(&self) -> Outcome
+        ensures { result ≡ not_there self.now }
+    {
+        if self.carried().is_some() {
+            Outcome::Gone
+        } else {
+            Outcome::State(StateWord::Absent)
+        }
+    }
+
+    /// Whether this login's serial is the one that the step carries, if it carries one.
+    pub(crate) fn is_carried(&self, serial: Serial) -> bool
+        ensures { result ≡ is_carried (carried self.now) serial }
+    {
+        match self.carried() {
+            None => true,
+            Some(carried) => serial == carried,
         }
     }
 }

@@ -1,25 +1,22 @@
 //! Laws over the definitions of machines and histories. They compute nothing: each contract is a theorem.
 
-ghost use Rattle.std.specs.Prelude.{List};
-ghost use Rattle.ely_domain.specs.Machine.{Given, first_machine};
-ghost use Rattle.ely_script.specs.Reading.{Line};
-ghost use Rattle.ely_domain.specs.Lines.{Taken};
-ghost use Rattle.ely_domain.specs.Replays.{replayed};
+ghost use Rattle.std.specs.Prelude.{◌≡◌, ℕ, List, length};
+ghost use Rattle.ely_domain.specs.Given.{Given};
 ghost use Rattle.ely_domain.specs.Headline.{IsHistoryOf};
-ghost use Rattle.ely_domain.specs.Pinnings.{IsEstablishedAsPinned};
 ghost use Rattle.ely_domain.specs.Histories.{IsRun, IsEstablishedWhereReady};
+ghost use Rattle.ely_domain.specs.Lines.{Taken};
+ghost use Rattle.ely_domain.specs.Machine.{first_machine};
+ghost use Rattle.ely_domain.specs.WhoGetsIn.{IsProvedWhereShown, IsAuthorizedWhereGranted, IsEstablishedByRight};
 
-/// In every run of the machine a login is established exactly where it is ready to succeed.
-pub fn established_exactly_where()
-    ensures { (given : Given) (h : List Taken) → IsRun given first_machine h → IsEstablishedWhereReady h }
-{}
-
-/// What a succeed establishes is what the login's last naming pinned.
-pub fn established_as_pinned()
-    ensures { (given : Given) (h : List Taken) → IsRun given first_machine h → IsEstablishedAsPinned given h }
-{}
-
-/// Lines that are run one after another make their history in file order.
-pub fn replay_is_history()
-    ensures { (given : Given) (lines : List Line) → IsHistoryOf given lines (replayed given lines) }
+/// In every run of the machine a check is passed exactly where its evidence proves the pinned key, a login is authorized
+/// exactly where the pinned version grants it, and established exactly where it is ready to succeed; and then both held.
+pub fn who_gets_in()
+    ensures proved { (given : Given) (h : List Taken)
+        → IsRun given (first_machine given) h → IsProvedWhereShown given h }
+    ensures authorized { (given : Given) (h : List Taken)
+        → IsRun given (first_machine given) h → IsAuthorizedWhereGranted given h }
+    ensures established { (given : Given) (h : List Taken)
+        → IsRun given (first_machine given) h → IsEstablishedWhereReady h }
+    ensures by_right { (given : Given) (h : List Taken)
+        → IsRun given (first_machine given) h → IsEstablishedByRight given h }
 {}

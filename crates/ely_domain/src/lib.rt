@@ -1,19 +1,20 @@
 //! The security domain: a machine over a journal of edits and the logins that are live. Its definitions say what each step
-//! answers, computed anew from the list of edits, which histories of a script are legal, and when a login is ready to
-//! succeed. It stands on `ely_table`, `ely_cred` and `ely_script`, and on what those stand on.
+//! answers, computed anew from the list of edits, which histories of a script are legal, when a login is ready to succeed,
+//! and who gets in. It keeps tables, pinned rows and derived keys beside that, of which no answer depends.
 #![tactic(auto)]
 
 mod checking;
-mod closing;
-mod context;
 mod domain;
 mod event;
 mod granting;
+mod handouts;
 mod laws;
-mod line;
+mod login_step;
 mod naming;
+mod part;
+mod prepared;
 
 pub use domain::{Domain, JOURNAL_LIMIT};
 pub use event::{Answer, Event};
-pub use laws::{established_as_pinned, established_exactly_where, replay_is_history};
-pub use line::{actor_of, event_of, words_of};
+pub use laws::who_gets_in;
+pub use part::{Part, actor_of, event_of, part_at};

@@ -1,58 +1,43 @@
 //! Naming a login in two steps: who it is, and with which key.
 
-ghost use Rattle.std.specs.Prelude.{◌≡◌, ◌≤◌, ◌+◌, List, IfOk, OnErr};
-ghost use Rattle.ely_row.specs.declared.edit.Edit.{Edit};
-ghost use Rattle.std.specs.Option.{option_map, option_and_then};
-ghost use Rattle.ely_row.specs.Salts.{plain_derivation};
-ghost use Rattle.ely_domain.specs.Machine.{main_realm, is_other, place_of, name1, name2};
-ghost use Rattle.ely_domain.specs.Costs.{carried_cost, naming_cost};
-ghost use Rattle.ely_domain.specs.Contexts.{logins, AreSound, IsPast, pinned, key_for, Names};
+ghost use Rattle.std.specs.Prelude.{◌≡◌, IfOk, OnErr, Ok, Option, Some, IsSome};
+ghost use Rattle.ely_base.specs.Refused.{Gives};
+ghost use Rattle.ely_context.specs.declared.stage.Stage.TheVariants as stages;
+ghost use Rattle.ely_cred.specs.Keys.{chosen, ready_of, ready_cost};
+ghost use Rattle.ely_domain.specs.Contexts.{Finds, HoldsIts, IsReply, IsSoundAt, StaysSound, read_of, seen_login};
+ghost use Rattle.ely_domain.specs.Costs.{RoseBy, naming_cost};
+ghost use Rattle.ely_domain.specs.Given.{Given, main_realm, place_of};
+ghost use Rattle.ely_domain.specs.Steps.{claimed_name, is_other, is_claim_of, serving, name1, name2};
+ghost use Rattle.ely_domain.specs.declared.prepared.Prepared.{Prepared};
 
-use crate::context::{Context, Pin, context_carried, context_in, set_pin, set_ready};
-use ely_base::{CtxId, Name, NoMemory, Serial};
+use ely_base::{Name, NoMemory, Refused};
+use ely_config::Config;
+use ely_context::{Context, Pin};
 use ely_cred::{Ready, choose, derive};
 use ely_hash::Steps;
-use ely_row::{Mech, Params, Place, RowSource, SharedRow};
+use ely_row::{Mech, PipeFault, Place, RowSource, SharedRow};
 use ely_script::{Claim, Outcome, StateWord};
 use ely_table::Tables;
 use std::alloc::Global;
 use std::sync::ledger::Ledger;
 
-/// Whom a claim is about.
-fn place_of(alloc: Global, claim: &Claim) -> Result<Place, NoMemory>
-    ensures { IfOk result (λ place. place ≡ place_of claim.now) }
+/// A place that can be named now, with its row.
+#[derive(Drop)]
+pub(crate) struct Found {
+    pub(crate) place: Place,
+    pub(crate) row: SharedRow,
+}
+
+/// The name that a claim is about.
+fn claimed_name(claim: &Claim) -> &Name
+    ensures { result.now ≡ claimed_name claim.now }
 {
     match claim {
-        Claim::Plain { name, .. } => Ok(Place {
-            realm: main_realm(alloc)?,
-            name: name.copy(alloc)?,
-        }),
+        Claim::Plain { name, .. } => name,
     }
 }
 
-/// The name of the one realm that there is.
-#[tactic(auto, unfolding(crate::specs::Machine::main_realm))]
-pub fn main_realm(alloc: Global) -> Result<Name, NoMemory>
-    ensures { IfOk result (λ realm. realm ≡ main_realm) }
-{
-    Ok(Name::of(Vec::from_slice(alloc, b"main")?))
-}
-
-/// The row of the place now, or why it can't be named.
-#[tactic(auto, unfolding(crate::specs::Machine::naming_fault, crate::specs::Machine::ident, crate::specs::Machine::chosen_at))]
-fn named_row(tables: &Tables, place: &Place) -> Result<Result<SharedRow, Outcome>, NoMemory>
-    ensures { IfOk result (λ found. Names tables.now.journal place.now found) }
-{
-    let Some(row) = tables.row_shared(&place.realm, &place.name)? else {
-        return Ok(Err(Outcome::Unknown));
-    };
-    if choose(row.row(), Mech::Plain).is_none() {
-        return Ok(Err(Outcome::NoCredential));
-    }
-    Ok(Ok(row))
-}
-
-/// Whether a claim asks for another name than its own.
+/// Whether a claim asks to act as another than it names.
 fn is_other(claim: &Claim) -> bool
     ensures { result ≡ is_other claim.now }
 {
@@ -64,99 +49,186 @@ fn is_other(claim: &Claim) -> bool
     }
 }
 
-/// The first half of a naming.
-pub fn name1(
-    alloc: Global,
+/// Whether a claim is of that mechanism.
+fn is_claim_of(mech: Mech, claim: &Claim) -> bool
+    ensures { result ≡ is_claim_of mech claim.now }
+{
+    match (mech, claim) {
+        (Mech::Plain, Claim::Plain { .. }) => true,
+        _ => false,
+    }
+}
+
+/// The name of the one realm that there is.
+#[tactic(auto, unfolding(crate::specs::Given::main_realm))]
+pub(crate) fn main_realm(alloc: Global) -> Result<Name, NoMemory>
+    ensures { IfOk result (λ realm. realm ≡ main_realm) }
+{
+    Ok(Name::of(Vec::from_slice(alloc, b"main")?))
+}
+
+/// The place of a name.
+#[tactic(auto, unfolding(crate::specs::Given::place_of))]
+fn place_of(alloc: Global, name: &Name) -> Result<Place, Refused<PipeFault>>
+    ensures { (given : Given) → Gives result (place_of given name.now) }
+{
+    Ok(Place {
+        realm: main_realm(alloc)?,
+        name: name.copy(alloc)?,
+    })
+}
+
+/// The row of a place now, one of whose credentials serves the mechanism; or why there is none.
+#[tactic(auto, unfolding(crate::specs::Steps::serving, crate::specs::Identities::ident))]
+fn serving_row(
+    config: &Config,
     tables: &Tables,
-    contexts: &mut [Context],
-    id: CtxId,
+    mech: Mech,
+    place: &Place,
+) -> Result<Result<SharedRow, Outcome>, NoMemory>
+    ensures { IfOk result (λ found. found
+        ≡ serving (read_of config.now tables.now) mech place.now) }
+{
+    let Some(row) = tables.row_shared(&place.realm, &place.name)? else {
+        return Ok(Err(Outcome::Unknown));
+    };
+    if choose(row.row(), mech).is_none() {
+        return Ok(Err(Outcome::NoCredential));
+    }
+    Ok(Ok(row))
+}
+
+/// The place that a claim names, with its row; or the first cause against naming it.
+#[tactic(auto, unfolding(crate::specs::Steps::naming))]
+fn found_place(
+    alloc: Global,
+    config: &Config,
+    tables: &Tables,
+    mech: Mech,
+    claim: &Claim,
+) -> Result<Result<Found, Outcome>, NoMemory>
+    ensures { IfOk result (λ found. Finds (read_of config.now tables.now) mech claim.now found) }
+{
+    if !is_claim_of(mech, claim) {
+        return Ok(Err(Outcome::Mechanism(mech)));
+    }
+    if is_other(claim) {
+        return Ok(Err(Outcome::Authzid));
+    }
+    let place = match place_of(alloc, claimed_name(claim)) {
+        Ok(place) => place,
+        Err(Refused::NoMemory) => return Err(NoMemory),
+        Err(Refused::Fault(fault)) => return Ok(Err(Outcome::Pipe(fault))),
+    };
+    match serving_row(config, tables, mech, &place)? {
+        Ok(row) => Ok(Ok(Found { place, row })),
+        Err(refusal) => Ok(Err(refusal)),
+    }
+}
+
+/// Pins what was found.
+fn pin_found(
+    config: &Config,
+    tables: &Tables,
+    context: &mut Context,
+    claim: Claim,
+    found: Found,
+) -> Outcome
+    requires fresh { context.old.stage ≡ stages.Fresh }
+    requires found { Finds (read_of config.now tables.now) context.old.mech claim (Ok found) }
+    ensures reply { IsReply
+        (name1 (read_of config.now tables.now) (seen_login context.old) claim stages.Fresh)
+        Outcome.State context.old result context.new }
+    ensures sound { (prepared : Option Prepared)
+        → IsSoundAt (read_of config.now tables.now) prepared context.new }
+{
+    let version = tables.version();
+    let pin = Pin {
+        version,
+        place: found.place,
+        row: found.row,
+        claim,
+        miss: false,
+    };
+    match context.name1(pin) {
+        Ok(()) => Outcome::Pinned(version),
+        Err((state, _)) => Outcome::State(state),
+    }
+}
+
+/// Names a fresh login, unless something stands against it.
+pub(crate) fn name1(
+    alloc: Global,
+    config: &Config,
+    tables: &Tables,
+    context: &mut Context,
     claim: Claim,
 ) -> Result<Outcome, NoMemory>
-    requires { AreSound tables.now.journal contexts.old }
-    ensures ok { IfOk result (λ outcome. (outcome, logins contexts.new) ≡ name1 tables.now.journal (logins contexts.old) id.0 claim) }
-    ensures sound { AreSound tables.now.journal contexts.new }
-    ensures err { OnErr result (contexts.new ≡ contexts.old) }
+    ensures reply { IfOk result (λ outcome. IsReply
+        (name1 (read_of config.now tables.now) (seen_login context.old) claim
+        (seen_login context.old).stage)
+        Outcome.State context.old outcome context.new) }
+    ensures sound { StaysSound (read_of config.now tables.now) context.old context.new }
+    ensures err { OnErr result (context.new ≡ context.old) }
 {
-    let context = match context_in(contexts, id, StateWord::Fresh) {
-        Ok(context) => context,
-        Err(refusal) => return Ok(refusal),
+    let StateWord::Fresh = context.state() else {
+        return Ok(Outcome::State(context.state()));
     };
-    if is_other(&claim) {
-        return Ok(Outcome::Authzid);
+    match found_place(alloc, config, tables, context.mech(), &claim)? {
+        Err(refusal) => Ok(refusal),
+        Ok(found) => Ok(pin_found(config, tables, context, claim, found)),
     }
-    let place = place_of(alloc, &claim)?;
-    let row = match named_row(tables, &place)? {
-        Ok(row) => row,
-        Err(fault) => return Ok(fault),
-    };
-    let version = tables.version();
-    set_pin(
-        contexts,
-        id,
-        Pin {
-            version: version.0,
-            place,
-            row,
-            claim,
-        },
-    );
-    Ok(Outcome::Pinned(version))
 }
 
 /// The key of what was pinned.
-#[tactic(auto, unfolding(crate::specs::Machine::ready_at))]
-fn key_for<L: Ledger>(
+fn ready_for<L: Ledger>(
     alloc: Global,
-    params: &Params,
-    pin: &Option<Pin>,
+    config: &Config,
+    pin: &Pin,
+    mech: Mech,
     steps: &mut Steps<L>,
-) -> Result<Option<Ready>, NoMemory>
-    requires plain { params.now ≡ plain_derivation }
-    ensures key { (edits : List Edit) → IsPast edits pin.now → IfOk result (λ ready. ready ≡ option_and_then (key_for edits) (option_map pinned pin.now)) }
-    ensures least { steps.old ≤ steps.new }
-    ensures most { (edits : List Edit) → IsPast edits pin.now → steps.new ≤ steps.old + naming_cost edits (option_map pinned pin.now) }
+) -> Result<Ready, NoMemory>
+    requires { IsSome (chosen mech pin.now.row) }
+    ensures value { IfOk result (λ ready. Some ready
+        ≡ ready_of config.now.params pin.now.place.realm pin.now.place.name mech pin.now.row) }
+    ensures cost { RoseBy steps.old steps.new (ready_cost config.now.params mech pin.now.row) }
 {
-    let Some(pin) = pin else {
-        return Ok(None);
-    };
-    if choose(pin.row.row(), Mech::Plain).is_none() {
-        return Ok(None);
-    }
-    let ready = derive(
+    let place = &pin.place;
+    derive(
         alloc,
-        &pin.place.realm,
-        &pin.place.name,
+        &place.realm,
+        &place.name,
         pin.row.row(),
-        Mech::Plain,
-        params,
+        mech,
+        &config.params,
         steps,
-    )?;
-    Ok(Some(ready))
+    )
 }
 
-/// The second half of a naming.
-#[tactic(auto, using(crate::proofs::Rules::serial_rules))]
-pub fn name2<L: Ledger>(
+/// Gives a loading login the key of what it pinned.
+pub(crate) fn name2<L: Ledger>(
     alloc: Global,
-    params: &Params,
+    config: &Config,
     tables: &Tables,
-    contexts: &mut [Context],
-    id: CtxId,
-    serial: Serial,
+    context: &mut Context,
     steps: &mut Steps<L>,
 ) -> Result<Outcome, NoMemory>
-    requires plain { params.now ≡ plain_derivation }
-    requires sound { AreSound tables.now.journal contexts.old }
-    ensures ok { IfOk result (λ outcome. (outcome, logins contexts.new) ≡ name2 (logins contexts.old) id.0 serial.0) }
-    ensures sound { AreSound tables.now.journal contexts.new }
-    ensures err { OnErr result (contexts.new ≡ contexts.old) }
-    ensures least { steps.old ≤ steps.new }
-    ensures most { steps.new ≤ steps.old + carried_cost (logins contexts.old) id.0 StateWord.Loading serial.0 (λ l. naming_cost tables.now.journal l.pin) }
+    requires { HoldsIts (read_of config.now tables.now) context.old.mech context.old.stage }
+    ensures reply { IfOk result (λ outcome. IsReply (name2 (seen_login context.old).stage)
+        (λ state. Outcome.Gone) context.old outcome context.new) }
+    ensures sound { StaysSound (read_of config.now tables.now) context.old context.new }
+    ensures err { OnErr result (context.new ≡ context.old) }
+    ensures cost { RoseBy steps.old steps.new
+        (naming_cost (read_of config.now tables.now) (seen_login context.old)
+        (seen_login context.old).stage) }
 {
-    let Some(context) = context_carried(contexts, id, StateWord::Loading, serial) else {
+    let mech = context.mech();
+    let Some(pin) = context.loading() else {
         return Ok(Outcome::Gone);
     };
-    let ready = key_for(alloc, params, &context.pin, steps)?;
-    set_ready(contexts, id, ready);
-    Ok(Outcome::Named)
+    let ready = ready_for(alloc, config, pin, mech, steps)?;
+    match context.name2(ready, None) {
+        Ok(()) => Ok(Outcome::Named),
+        Err(_) => Ok(Outcome::Gone),
+    }
 }

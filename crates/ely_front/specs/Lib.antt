@@ -1,6 +1,8 @@
-pub mod Scripts
-pub mod After
-pub mod Heard
-pub mod Endings
-pub mod FirstLines
-pub mod Runs
+pub mod Moments
+pub mod FirstLine
+pub mod Line
+pub mod Lines
+pub mod Ending
+pub mod Replay
+pub mod Loop
+pub mod Call

@@ -1,7 +1,17 @@
-//! How a mode ends, and the lines that are written then.
+//! How a mode ends, and the line that is written then.
 
-ghost use Rattle.std.specs.Prelude.{◌≡◌};
-ghost use Rattle.ely_front.specs.Endings.{status_of};
+ghost use Rattle.std.specs.Prelude.{◌≡◌, ◌≢◌, ◌≤◌, ◌++◌};
+ghost use Rattle.ely_io.specs.Causes.{Rose};
+ghost use Rattle.ely_front.specs.Ending.{status_of, stop_ending, stop_text, Closes};
+
+use ely_base::Refused;
+use ely_io::{LineFault, Sink, write_all};
+
+pub(crate) const WORDS_TEXT: [u8; 6] = *b"words\n";
+
+pub(crate) const CONFIG_TEXT: [u8; 19] = *b"config / not-built\n";
+
+pub(crate) const CONFIG_LIMIT_TEXT: [u8; 21] = *b"limit config 1048576\n";
 
 /// How a mode ends.
 #[derive(Clone, Copy, Debug, PartialEq, Eq)]
@@ -39,4 +49,52 @@ impl Ending {
             Ending::ConfigLimit | Ending::BytesLimit => 6,
         }
     }
+}
+
+/// Writes the text that belongs to an ending.
+pub(crate) fn close<K: Sink>(sink: &mut K, text: &[u8], ending: Ending) -> Ending
+    requires { ending ≢ Ending.Write }
+    ensures ends { Closes (K.seen sink.old) (K.seen sink.new) text.now ending result }
+    ensures later { (K.seen sink.old).faults ≤ (K.seen sink.new).faults }
+    ensures write { result ≡ Ending.Write
+        → Rose (K.seen sink.old).faults (K.seen sink.new).faults }
+{
+    match write_all(sink, text) {
+        Ok(_) => ending,
+        Err(_) => Ending::Write,
+    }
+}
+
+/// How a mode ends where the reader of lines refused.
+fn stop_ending(refused: Refused<LineFault>) -> Ending
+    ensures { result ≡ stop_ending refused }
+{
+    match refused {
+        Refused::NoMemory => Ending::NoMemory,
+        Refused::Fault(LineFault::Read) => Ending::Read,
+        Refused::Fault(LineFault::Spent) => Ending::BytesLimit,
+    }
+}
+
+/// The text that is written then.
+fn stop_text(refused: Refused<LineFault>) -> &'static [u8]
+    ensures { result.now ≡ stop_text refused }
+{
+    match refused {
+        Refused::NoMemory | Refused::Fault(LineFault::Read) => b"",
+        Refused::Fault(LineFault::Spent) => b"limit bytes 1099511627776\n",
+    }
+}
+
+/// Writes what was collected, and then what belongs to a refusal of the reader of lines.
+pub(crate) fn stop<K: Sink>(sink: &mut K, out: &[u8], refused: Refused<LineFault>) -> Ending
+    ensures ends { Closes (K.seen sink.old) (K.seen sink.new)
+        (out.now ++ stop_text refused) (stop_ending refused) result }
+    ensures write { result ≡ Ending.Write
+        → Rose (K.seen sink.old).faults (K.seen sink.new).faults }
+{
+    if let Err(_) = write_all(sink, out) {
+        return Ending::Write;
+    }
+    close(sink, stop_text(refused), stop_ending(refused))
 }

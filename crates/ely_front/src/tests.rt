@@ -1,23 +1,19 @@
-ghost use Rattle.std.specs.Prelude.{◌≡◌, ◌-◌, ◌<◌, ◌^◌};
+ghost use Rattle.std.specs.Prelude.{◌≡◌, ◌<◌};
 
 use crate::run;
-use ely_base::{Name, NoMemory};
-use ely_domain::{Domain, Event};
 use ely_hash::Steps;
-use ely_io::{Failed, MemSink, MemSource, Sink, Source};
-use ely_row::{Edit, EditFault};
-use ely_script::Outcome;
+use ely_io::{MemSink, MemSource};
 use std::alloc::Global;
 use std::marker::Brand;
 use std::sync::ledger::{Blank, Ledger};
 use std::test::Fail;
 
-fn counted<S: Source, K: Sink, L: Ledger>(
+fn counted<L: Ledger>(
     blank: Blank,
     alloc: Global,
     words: &[String],
-    source: &mut S,
-    sink: &mut K,
+    source: &mut MemSource,
+    sink: &mut MemSink,
 ) -> u8
     requires name { blank.name ≡ L.name }
     requires parts { blank.parts ≡ L.parts }
@@ -28,104 +24,127 @@ fn counted<S: Source, K: Sink, L: Ledger>(
 }
 
 /// The status of a run with a counter of its own.
-fn status_of<S: Source, K: Sink>(
-    alloc: Global,
-    words: &[String],
-    source: &mut S,
-    sink: &mut K,
-) -> u8 {
-    counted::<S, K, Brand>(Blank::new(1), alloc, words, source, sink)
+fn status_of(alloc: Global, words: &[String], source: &mut MemSource, sink: &mut MemSink) -> u8 {
+    counted::<Brand>(Blank::new(1), alloc, words, source, sink)
 }
 
-/// What a run on these words and this input writes, with its status as the last byte.
-fn ran(rt: &HostRuntime, words: &[&str], input: &[u8]) -> Result<Vec<u8>, Fail> {
+/// How the source is read and the sink takes: the sizes of the calls, and the calls of the source that fail.
+#[derive(Clone, Copy)]
+struct Plan<'a> {
+    pieces: &'a [usize],
+    failing: &'a [u64],
+    takes: &'a [usize],
+}
+
+const WHOLE: Plan<'static> = Plan {
+    pieces: &[],
+    failing: &[],
+    takes: &[],
+};
+
+/// What a run on these words and this input did: its status, what it wrote, and how often it read.
+fn ran(
+    rt: &HostRuntime,
+    words: &[&str],
+    input: &[u8],
+    plan: &Plan,
+) -> Result<(u8, Vec<u8>, u64), Fail> {
     let mut list = Vec::new(rt.alloc());
     for word in words {
         list.push(String::from_str(rt.alloc(), word)?)?;
     }
     let mut source = MemSource::new(
         input.to_vec(rt.alloc())?,
-        Vec::new(rt.alloc()),
+        plan.pieces.to_vec(rt.alloc())?,
+        plan.failing.to_vec(rt.alloc())?,
+    );
+    let mut sink = MemSink::new(
+        rt.alloc(),
+        plan.takes.to_vec(rt.alloc())?,
         Vec::new(rt.alloc()),
     );
-    let mut sink = MemSink::new(rt.alloc(), Vec::new(rt.alloc()), Vec::new(rt.alloc()));
     let status = status_of(rt.alloc(), &list, &mut source, &mut sink);
-    let mut shown = sink.bytes().to_vec(rt.alloc())?;
-    shown.push(b'0' + status.min(9))?;
-    Ok(shown)
+    Ok((status, sink.bytes().to_vec(rt.alloc())?, source.calls()))
 }
 
 const REPLAY: [&str; 2] = ["elydom", "replay"];
 
-#[test]
-fn an_empty_script_prints_nothing(rt: HostRuntime) -> Result<(), Fail> {
-    assert_eq!(rt; ran(&rt, &REPLAY, b"{}\n")?.as_slice(), b"0".as_slice());
-    assert_eq!(rt; ran(&rt, &REPLAY, b"{}")?.as_slice(), b"0".as_slice());
-    Ok(())
+/// An input, and the status and the text of its replay.
+type Row<'a> = (&'a [u8], u8, &'a [u8]);
+
+/// The place of the first input whose replay has another status or another text.
+fn first_wrong(rt: &HostRuntime, rows: &[Row]) -> Result<Option<usize>, Fail> {
+    for (place, (input, status, text)) in rows.iter().enumerate() {
+        let (ended, said, _) = ran(rt, &REPLAY, input, &WHOLE)?;
+        if ended != *status || said.as_slice() != *text {
+            return Ok(Some(place));
+        }
+    }
+    Ok(None)
 }
 
 #[test]
 fn other_words_are_refused(rt: HostRuntime) -> Result<(), Fail> {
-    assert_eq!(rt;
-        ran(&rt, &["elydom"], b"{}\n")?.as_slice(),
-        b"words\n2".as_slice()
-    );
-    assert_eq!(rt;
-        ran(&rt, &["elydom", "replay", "--workers", "2"], b"{}\n")?.as_slice(),
-        b"words\n2".as_slice()
-    );
-    assert_eq!(rt;
-        ran(&rt, &["elydom", "race"], b"{}\n")?.as_slice(),
-        b"words\n2".as_slice()
-    );
-    Ok(())
-}
-
-#[test]
-fn another_first_line_is_refused(rt: HostRuntime) -> Result<(), Fail> {
-    for input in [
-        b"{\"x\":1}\n".as_slice(),
-        b"".as_slice(),
-        b"\n{}\n".as_slice(),
-    ] {
-        assert_eq!(rt;
-            ran(&rt, &REPLAY, input)?.as_slice(),
-            b"config / not-built\n3".as_slice()
-        );
+    let lists: [&[&str]; 3] = [
+        &["elydom"],
+        &["elydom", "race"],
+        &["elydom", "replay", "--workers", "2"],
+    ];
+    for words in lists {
+        let (status, text, reads) = ran(&rt, words, b"{}\n", &WHOLE)?;
+        assert_eq!(rt; status, 2);
+        assert_eq!(rt; text.as_slice(), b"words\n".as_slice());
+        assert_eq!(rt; reads, 0);
     }
     Ok(())
 }
 
-const LOGIN: &[u8] = b"{}
+/// Each verb that is carried out.
+const VERBS: &[u8] = b"{}
 0 add main user
-0 set-cred main user 1 clear pencil
-0 open 1 PLAIN
-0 plain 1 AHVzZXIAcGVuY2ls
-0 authorize 1
-0 succeed 1
-0 allows 1 login
-0 allows 1 run-as:bob
+0 set-cred main user 1 clear pen%20cil
+0 set-cred main user 2 clear other
+0 drop-cred main user 2
+0 set-attr main user mail user@example.org
+0 drop-attr main user mail
+0 set-attr main user groups staff night%20shift staff
+0 open 7 PLAIN
+0 plain 7 Ym9iAHVzZXIAcGVuY2ls
+0 plain 7 dXNlcgB1c2VyAHBlbiBjaWw=
+0 authorize 7
+0 succeed 7
+0 allows 7 login
+0 allows 7 shut%20down
+0 close 7
+0 open 7 PLAIN xyz
+0 fail 7
+0 close 7
+0 remove main user
 ";
 
-/// What the login prints, with the status as the last byte.
-const ESTABLISHED: &[u8] = b"1 0 1 add ok 1
+const VERBS_TEXT: &[u8] = b"1 0 1 add ok 1
 2 0 2 set-cred ok 2
-3 0 3 open ok 1
-4 0 4 name1 pinned 2 -
-5 0 4 name2 named -
-6 0 4 check1 ok
-7 0 4 check2 proved
-8 0 5 authorize authorized
-9 0 6 succeed established 2 main user roles=
-10 0 7 allows yes
-11 0 8 allows no
-0";
-
-#[test]
-fn a_password_establishes_an_identity(rt: HostRuntime) -> Result<(), Fail> {
-    assert_eq!(rt; ran(&rt, &REPLAY, LOGIN)?.as_slice(), ESTABLISHED);
-    Ok(())
-}
+3 0 3 set-cred ok 3
+4 0 4 drop-cred ok 4
+5 0 5 set-attr ok 5
+6 0 6 drop-attr ok 6
+7 0 7 set-attr ok 7
+8 0 8 open ok 1
+9 0 9 name1 authzid
+10 0 10 name1 pinned 7 -
+11 0 10 name2 named -
+12 0 10 check1 ok
+13 0 10 check2 proved
+14 0 11 authorize authorized
+15 0 12 succeed established 7 main user roles=night%20shift,staff
+16 0 13 allows yes
+17 0 14 allows no
+18 0 15 close ok
+19 0 16 open ok 2
+20 0 17 fail ok
+21 0 18 close ok
+22 0 19 remove ok 8
+";
 
 const REFUSED: &[u8] = b"{}
 0 add main user
@@ -136,7 +155,7 @@ const REFUSED: &[u8] = b"{}
 0 authorize 1
 0 zap";
 
-const REFUSALS: &[u8] = b"1 0 1 add ok 1
+const REFUSED_TEXT: &[u8] = b"1 0 1 add ok 1
 2 0 2 set-cred ok 2
 3 0 3 open ok 1
 4 0 4 name1 unknown
@@ -146,26 +165,20 @@ const REFUSALS: &[u8] = b"1 0 1 add ok 1
 8 0 5 check2 password
 9 0 6 authorize state failed
 10 0 7 bad-line verb
-0";
+";
 
-#[test]
-fn an_unknown_name_and_a_wrong_password_are_refused(rt: HostRuntime) -> Result<(), Fail> {
-    assert_eq!(rt; ran(&rt, &REPLAY, REFUSED)?.as_slice(), REFUSALS);
-    Ok(())
-}
-
-/// A login against a password that was salted with one turn of SHA-1 (RFC 6070), and what a hash of another name says.
+/// A password that was salted with two turns of SHA-1 (RFC 6070), and in a lower slot what a hash of another name says.
 const SALTED: &[u8] = b"{}
 0 add main user
-0 set-cred main user 1 scram-sha-1 1:c2FsdA==:DGDID5YfDnHzqbUkr2ASBi/gN6Y=
+0 set-cred main user 1 scram-sha-1 2:c2FsdA==:6mwBTcctb4zNHtkqzh1B8NjeiVc=
 0 open 1 PLAIN
 0 plain 1 AHVzZXIAcGFzc3dvcmQ=
 0 set-cred main user 0 digest-md5 939e7578ed9e3c518a452acee763bce9:testrealm@host.com
 0 open 2 PLAIN
 0 plain 2 AHVzZXIAcGFzc3dvcmQ=
-0 set-cred main user 1 scram-sha-1 0:c2FsdA==:DGDID5YfDnHzqbUkr2ASBi/gN6Y=";
+0 set-cred main user 1 scram-sha-1 0:c2FsdA==:6mwBTcctb4zNHtkqzh1B8NjeiVc=";
 
-const PROVED: &[u8] = b"1 0 1 add ok 1
+const SALTED_TEXT: &[u8] = b"1 0 1 add ok 1
 2 0 2 set-cred ok 2
 3 0 3 open ok 1
 4 0 4 name1 pinned 2 -
@@ -179,133 +192,133 @@ const PROVED: &[u8] = b"1 0 1 add ok 1
 12 0 7 check1 ok
 13 0 7 check2 password
 14 0 8 bad-line cred turns
-0";
+";
 
 #[test]
-fn a_password_proves_a_salted_one_in_the_lowest_slot(rt: HostRuntime) -> Result<(), Fail> {
-    assert_eq!(rt; ran(&rt, &REPLAY, SALTED)?.as_slice(), PROVED);
+fn scripts_print_their_history(rt: HostRuntime) -> Result<(), Fail> {
+    let rows: [Row; 5] = [
+        (b"{}", 0, b""),
+        (b"{}\n", 0, b""),
+        (VERBS, 0, VERBS_TEXT),
+        (REFUSED, 0, REFUSED_TEXT),
+        (SALTED, 0, SALTED_TEXT),
+    ];
+    assert_eq!(rt; first_wrong(&rt, &rows)?, None);
     Ok(())
 }
 
-/// Gives the first 19 bytes of the login's input and fails from then on.
-#[derive(Drop)]
-struct Broken {
-    calls: u64,
-}
-
-impl Source for Broken {
-    ghost use Rattle.std.specs.Prelude.{None};
-
-    ghost left = { λ _. None };
-
-    ghost faults = { λ s. s.calls };
-
-    fn read(&mut self, buf: &mut [u8]) -> Result<usize, Failed> {
-        let first = self.calls == 0;
-        self.calls = self.calls.saturating_add(1);
-        if !first || buf.len() < 19 {
-            return Err(Failed);
-        }
-        buf[..19].copy_from_slice(&LOGIN[..19]);
-        Ok(19)
-    }
-}
-
 #[test]
-fn a_line_is_answered_before_the_next_is_read(rt: HostRuntime) -> Result<(), Fail> {
-    let words = vec![in rt.alloc();
-        String::from_str(rt.alloc(), "elydom")?,
-        String::from_str(rt.alloc(), "replay")?,
-    ]?;
-    let mut source = Broken { calls: 0 };
-    let mut sink = MemSink::new(rt.alloc(), Vec::new(rt.alloc()), Vec::new(rt.alloc()));
-    assert_eq!(rt; status_of(rt.alloc(), &words, &mut source, &mut sink), 4);
-    assert_eq!(rt; sink.bytes(), b"1 0 1 add ok 1\n".as_slice());
+fn another_first_line_is_refused(rt: HostRuntime) -> Result<(), Fail> {
+    let most = vec![in rt.alloc(); b'x'; 1048576]?;
+    let more = vec![in rt.alloc(); b'x'; 1048577]?;
+    let rows: [Row; 5] = [
+        (b"", 3, b"config / not-built\n"),
+        (b"\n{}\n", 3, b"config / not-built\n"),
+        (b"{\"x\":1}\n", 3, b"config / not-built\n"),
+        (&most, 3, b"config / not-built\n"),
+        (&more, 6, b"limit config 1048576\n"),
+    ];
+    assert_eq!(rt; first_wrong(&rt, &rows)?, None);
     Ok(())
 }
 
-/// What a failing sink holds after the login's run, with the status.
-fn broken_sink(rt: &HostRuntime, takes: Vec<usize>) -> Result<Vec<u8>, Fail> {
-    let words = vec![in rt.alloc();
-        String::from_str(rt.alloc(), "elydom")?,
-        String::from_str(rt.alloc(), "replay")?,
-    ]?;
-    let mut source = MemSource::new(
-        LOGIN.to_vec(rt.alloc())?,
-        Vec::new(rt.alloc()),
-        Vec::new(rt.alloc()),
-    );
-    let mut sink = MemSink::new(rt.alloc(), takes, Vec::new(rt.alloc()));
-    let status = status_of(rt.alloc(), &words, &mut source, &mut sink);
-    let mut shown = sink.bytes().to_vec(rt.alloc())?;
-    shown.push(b'0' + status.min(9))?;
-    Ok(shown)
+/// Lines of 8,192, of 8,193 and of this many bytes, the last without an LF.
+fn long_lines(alloc: Global, last: usize) -> Result<Vec<u8>, Fail> {
+    let mut input = b"{}".to_vec(alloc)?;
+    for len in [8192, 8193, last] {
+        input.extend_from_slice(b"\n3 ")?;
+        input.extend_from_slice(&vec![in alloc; b'x'; len.max(2) - 2]?)?;
+    }
+    Ok(input)
 }
 
+const LONG_TEXT: &[u8] = b"1 3 1 bad-line verb
+2 0 1 bad-line long
+3 3 2 bad-line verb
+";
+
+const LONGER_TEXT: &[u8] = b"1 3 1 bad-line verb
+2 0 1 bad-line long
+3 0 2 bad-line long
+";
+
 #[test]
-fn a_failing_sink_holds_a_front(rt: HostRuntime) -> Result<(), Fail> {
-    assert_eq!(rt;
-        broken_sink(&rt, vec![in rt.alloc(); 5, 0]?)?.as_slice(),
-        b"1 0 15".as_slice()
-    );
-    assert_eq!(rt;
-        broken_sink(&rt, vec![in rt.alloc(); 0]?)?.as_slice(),
-        b"5".as_slice()
-    );
+fn a_line_has_at_most_8192_bytes(rt: HostRuntime) -> Result<(), Fail> {
+    let long = long_lines(rt.alloc(), 8192)?;
+    let longer = long_lines(rt.alloc(), 8193)?;
+    let rows: [Row; 2] = [(&long, 0, LONG_TEXT), (&longer, 0, LONGER_TEXT)];
+    assert_eq!(rt; first_wrong(&rt, &rows)?, None);
     Ok(())
 }
 
-fn name(alloc: Global, text: &[u8]) -> Result<Name, NoMemory> {
-    match Name::read(alloc, text) {
-        Ok(name) => Ok(name),
-        Err(_) => Err(NoMemory),
+#[test]
+fn much_text_of_one_read_is_written_in_order(rt: HostRuntime) -> Result<(), Fail> {
+    let mut input = b"{}\n".to_vec(rt.alloc())?;
+    let mut text = Vec::new(rt.alloc());
+    for number in 1..701u32 {
+        input.extend_from_slice(b"0 zap\n")?;
+        let line = format!(in rt.alloc(); "{number} 0 {number} bad-line verb\n")?;
+        text.extend_from_slice(line.as_bytes())?;
     }
+    let rows: [Row; 1] = [(&input, 0, &text)];
+    assert_eq!(rt; first_wrong(&rt, &rows)?, None);
+    Ok(())
 }
 
-/// What a domain answers to a new name: the version, or 100 and the limit of its journal.
-fn added<L: Ledger>(
-    alloc: Global,
-    domain: &mut Domain,
-    user: &[u8],
-    steps: &mut Steps<L>,
-) -> Result<u64, NoMemory>
-    requires { domain.old.machine.opened < 2 ^ 64 - 1 }
-{
-    let edit = Edit::Add {
-        realm: name(alloc, b"main")?,
-        name: name(alloc, user)?,
-    };
-    match domain.step(alloc, Event::Change { edit }, steps)?.outcome {
-        Outcome::Changed(version) => Ok(version.0),
-        Outcome::Refused(EditFault::JournalFull(limit)) => Ok(100 + u64::from(limit)),
-        _ => Err(NoMemory),
-    }
-}
-
-fn counted_adds<L: Ledger>(blank: Blank, alloc: Global) -> Result<Vec<u64>, NoMemory>
-    requires name { blank.name ≡ L.name }
-    requires parts { blank.parts ≡ L.parts }
-    requires some { 0 < blank.parts }
-{
-    let mut steps = Steps::<L>::of(blank);
-    let mut domain = Domain::new(alloc, 2)?;
-    let mut answers = Vec::new(alloc);
-    for user in [b"a", b"b", b"c"] {
-        if domain.opened() == u64::MAX {
-            return Err(NoMemory);
-        }
-        answers.push(added(alloc, &mut domain, user, &mut steps)?)?;
-    }
-    Ok(answers)
-}
-
-/// What a domain whose journal takes two edits answers to three names.
-fn adds(alloc: Global) -> Result<Vec<u64>, NoMemory> {
-    counted_adds::<Brand>(Blank::new(1), alloc)
-}
+/// A plan, and the status of a replay by it, what it writes, and how often it reads.
+type Failure<'a> = (Plan<'a>, u8, &'a [u8], u64);
 
 #[test]
-fn a_full_journal_takes_no_edit(rt: HostRuntime) -> Result<(), Fail> {
-    assert_eq!(rt; adds(rt.alloc())?.as_slice(), [1, 2, 102].as_slice());
+fn what_is_answered_is_written_before_the_next_read(rt: HostRuntime) -> Result<(), Fail> {
+    let failures: [Failure; 4] = [
+        // the configuration and the first line, and then a fault
+        (
+            Plan {
+                pieces: &[19],
+                failing: &[1],
+                takes: &[],
+            },
+            4,
+            b"1 0 1 add ok 1\n",
+            2,
+        ),
+        // the sink fails before the source is read again
+        (
+            Plan {
+                pieces: &[19],
+                failing: &[1],
+                takes: &[0],
+            },
+            5,
+            b"",
+            1,
+        ),
+        (
+            Plan {
+                pieces: &[19],
+                failing: &[],
+                takes: &[5, 0],
+            },
+            5,
+            b"1 0 1",
+            1,
+        ),
+        (
+            Plan {
+                pieces: &[3, 16, 8],
+                failing: &[3],
+                takes: &[],
+            },
+            4,
+            b"1 0 1 add ok 1\n",
+            4,
+        ),
+    ];
+    for (plan, status, text, reads) in &failures {
+        let (ended, said, calls) = ran(&rt, &REPLAY, VERBS, plan)?;
+        assert_eq!(rt; ended, *status);
+        assert_eq!(rt; said.as_slice(), *text);
+        assert_eq!(rt; calls, *reads);
+    }
     Ok(())
 }

@@ -1,5 +1,6 @@
 -- A running value of Hi.
 use Rattle.std.proofs.Common.{◌≡◌, ℕ, zero, suc, ◌+◌, ◌≤◌, List, [], ◌∷◌, ◌++◌, length, refl, arith, sym, ap, ◌∙◌, add-one, length-append}
+use Rattle.ely_hash.specs.Hashes.{Hash}
 use Rattle.ely_hash.specs.Formulas.{xor_lists, xor_all, u_at, us_to, hmac_of, hi_of}
 use Rattle.ely_hash.proofs.XorLemmas.{xor_all-push, length-xor_lists}
 
@@ -52,10 +53,10 @@ IsHiAt-more mac first len last total u k some is n h =
     }
 
 -- the value of Hi as the exclusive or of all U
-pub hi_is : (digest : List ℕ → List ℕ) (block : ℕ) (password salt : List ℕ) (turns : ℕ) → hi_of digest block password salt turns ≡ xor_all (us_to (hmac_of digest block password) (salt ++ 0 ∷ 0 ∷ 0 ∷ 1 ∷ []) turns)
+pub hi_is : (hash : Hash) (password salt : List ℕ) (turns : ℕ) → hi_of hash password salt turns ≡ xor_all (us_to (hmac_of hash password) (salt ++ 0 ∷ 0 ∷ 0 ∷ 1 ∷ []) turns)
 unfolding hi_of
-hi_is digest block password salt turns = refl
+hi_is hash password salt turns = refl
 
 -- after all turns, the running value is Hi's
-pub IsHiAt-hi_of : (digest : List ℕ → List ℕ) (block : ℕ) (password salt : List ℕ) (len : ℕ) (last total : List ℕ) (k turns : ℕ) → k ≡ turns → IsHiAt (hmac_of digest block password) (salt ++ 0 ∷ 0 ∷ 0 ∷ 1 ∷ []) len last total k → total ≡ hi_of digest block password salt turns
-IsHiAt-hi_of digest block password salt len last total k turns all h = rw (hi_is digest block password salt turns, sym all) h.so_far
+pub IsHiAt-hi_of : (hash : Hash) (password salt : List ℕ) (len : ℕ) (last total : List ℕ) (k turns : ℕ) → k ≡ turns → IsHiAt (hmac_of hash password) (salt ++ 0 ∷ 0 ∷ 0 ∷ 1 ∷ []) len last total k → total ≡ hi_of hash password salt turns
+IsHiAt-hi_of hash password salt len last total k turns all h = rw (hi_is hash password salt turns, sym all) h.so_far

@@ -1,33 +1,32 @@
--- HMAC, Hi and the keys of SCRAM as formulas on lists of bytes, over any hash function and the length of its block.
+-- HMAC, Hi and the keys of SCRAM as formulas on lists of bytes, over any hash function.
 use Rattle.std.specs.Prelude.{ℕ, zero, suc, ◌-◌, nat_le, List, [], ◌∷◌, ◌++◌, length, replicate, map, bit_xor, codes, if◌then◌else◌}
+use Rattle.ely_hash.specs.Hashes.{Hash}
 
 -- ---- HMAC (RFC 2104 section 2)
 
 -- the key itself, or its digest where it is longer than a block
-abbrev pub short_key : (List ℕ → List ℕ) → ℕ → List ℕ → List ℕ
-short_key digest block key = if nat_le (length key) block then key else digest key
+abbrev pub short_key : Hash → List ℕ → List ℕ
+short_key hash key = if nat_le (length key) hash.block then key else hash.digest key
 
 -- K: the key with zeros after it, up to the length of a block
-abbrev pub block_key : (List ℕ → List ℕ) → ℕ → List ℕ → List ℕ
-block_key digest block key =
-    short_key digest block key ++ replicate (block - length (short_key digest block key)) 0
+abbrev pub block_key : Hash → List ℕ → List ℕ
+block_key hash key = short_key hash key ++ replicate (hash.block - length (short_key hash key)) 0
 
 -- the exclusive or of each byte and a pad
 abbrev pub xor_each : ℕ → List ℕ → List ℕ
 xor_each pad xs = map (λ x. bit_xor x pad) xs
 
 -- K xor ipad
-unfoldable pub inner_key : (List ℕ → List ℕ) → ℕ → List ℕ → List ℕ
-inner_key digest block key = xor_each 0x36 (block_key digest block key)
+unfoldable pub inner_key : Hash → List ℕ → List ℕ
+inner_key hash key = xor_each 0x36 (block_key hash key)
 
 -- K xor opad
-unfoldable pub outer_key : (List ℕ → List ℕ) → ℕ → List ℕ → List ℕ
-outer_key digest block key = xor_each 0x5c (block_key digest block key)
+unfoldable pub outer_key : Hash → List ℕ → List ℕ
+outer_key hash key = xor_each 0x5c (block_key hash key)
 
 -- HMAC is H (K xor opad, H (K xor ipad, text))
-unfoldable pub hmac_of : (List ℕ → List ℕ) → ℕ → List ℕ → List ℕ → List ℕ
-hmac_of digest block key text =
-    digest (outer_key digest block key ++ digest (inner_key digest block key ++ text))
+unfoldable pub hmac_of : Hash → List ℕ → List ℕ → List ℕ
+hmac_of hash key text = hash.digest (outer_key hash key ++ hash.digest (inner_key hash key ++ text))
 
 -- ---- Hi (RFC 5802 section 2.2)
 
@@ -43,7 +42,7 @@ xor_all [] = []
 xor_all (x ∷ []) = x
 xor_all (x ∷ y ∷ ys) = xor_lists x (xor_all (y ∷ ys))
 
--- U1 is the code of the first text, and each further U is the code of the U before it; this is U (k + 1)
+-- U1 is the MAC of the first text, and each further U is the MAC of the U before it; this is U (k + 1)
 unfoldable pub u_at : (List ℕ → List ℕ) → List ℕ → ℕ → List ℕ
 u_at mac first zero = mac first
 u_at mac first (suc k) = mac (u_at mac first k)
@@ -53,21 +52,21 @@ unfoldable pub us_to : (List ℕ → List ℕ) → List ℕ → ℕ → List (Li
 us_to mac first zero = []
 us_to mac first (suc n) = us_to mac first n ++ u_at mac first n ∷ []
 
--- Hi is the exclusive or of all U, where U1 is the code of the salt and INT(1), which is 00 00 00 01
-unfoldable pub hi_of : (List ℕ → List ℕ) → ℕ → List ℕ → List ℕ → ℕ → List ℕ
-hi_of digest block password salt turns =
-    xor_all (us_to (hmac_of digest block password) (salt ++ 0 ∷ 0 ∷ 0 ∷ 1 ∷ []) turns)
+-- Hi is the exclusive or of all U, where U1 is the MAC of the salt and INT(1), which is 00 00 00 01
+unfoldable pub hi_of : Hash → List ℕ → List ℕ → ℕ → List ℕ
+hi_of hash password salt turns =
+    xor_all (us_to (hmac_of hash password) (salt ++ 0 ∷ 0 ∷ 0 ∷ 1 ∷ []) turns)
 
 -- ---- the keys (RFC 5802 section 3)
 
 -- ClientKey is HMAC (SaltedPassword, "Client Key")
-abbrev pub client_key_of : (List ℕ → List ℕ) → ℕ → List ℕ → List ℕ
-client_key_of digest block salted = hmac_of digest block salted (codes "Client Key")
+abbrev pub client_key_of : Hash → List ℕ → List ℕ
+client_key_of hash salted = hmac_of hash salted (codes "Client Key")
 
 -- StoredKey is H (ClientKey)
-abbrev pub stored_key_of : (List ℕ → List ℕ) → ℕ → List ℕ → List ℕ
-stored_key_of digest block salted = digest (client_key_of digest block salted)
+abbrev pub stored_key_of : Hash → List ℕ → List ℕ
+stored_key_of hash salted = hash.digest (client_key_of hash salted)
 
 -- ServerKey is HMAC (SaltedPassword, "Server Key")
-abbrev pub server_key_of : (List ℕ → List ℕ) → ℕ → List ℕ → List ℕ
-server_key_of digest block salted = hmac_of digest block salted (codes "Server Key")
+abbrev pub server_key_of : Hash → List ℕ → List ℕ
+server_key_of hash salted = hmac_of hash salted (codes "Server Key")

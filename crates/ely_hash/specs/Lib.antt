@@ -1,5 +1,6 @@
 pub mod Algs
 pub mod Formulas
+pub mod Hashes
 pub mod LawProofs
 pub mod Laws
 pub mod Macs

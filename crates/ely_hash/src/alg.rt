@@ -1,11 +1,9 @@
-//! The hash functions MD5 (RFC 1321), SHA-1 and SHA-256 (FIPS 180-4) behind one trait. Nothing above this file names
-//! the crates that compute them.
-ghost use Rattle.std.specs.Prelude.{◌≡◌, ⊤, ℕ, List, [], ◌++◌, length};
+//! The hash functions MD5 (RFC 1321), SHA-1 and SHA-256 (FIPS 180-4) behind one trait. No other crate of the
+//! repository names the crates that compute them.
+ghost use Rattle.std.specs.Prelude.{◌≡◌, refl, ⊤, ℕ, List, [], ◌++◌, length};
+ghost use Rattle.ely_hash.specs.Hashes.{Hash, md5_hash, sha1_hash, sha256_hash};
 ghost use Rattle.ely_hash.specs.Laws.{HashLaws};
 ghost use Rattle.ely_hash.specs.LawProofs.{md5_laws, sha1_laws, sha256_laws};
-ghost use Rattle.md5.specs.Md5.{md5};
-ghost use Rattle.sha1.specs.Sha1.{sha1};
-ghost use Rattle.sha2.specs.Sha256.{sha256};
 
 use crate::tag::Tag;
 use md5::Md5;
@@ -26,14 +24,19 @@ pub trait HashAlg: Clone + Drop {
 
     ghost BLOCK: { ℕ };
 
+    /// The hash function, as its standard defines it.
+    ghost hash: { Hash };
+
+    /// The two constants are its lengths.
+    ghost len_is: { LEN ≡ hash.len };
+
+    ghost block_is: { BLOCK ≡ hash.block };
+
     /// A value stands for a message: these are the bytes that it has taken.
     ghost stands: { Self → List ℕ → Type 0 };
 
-    /// The digest of a message, as its standard defines it.
-    ghost digest: { List ℕ → List ℕ };
-
     /// A digest has `LEN` bytes, a tag and a block have room for one, and a block has at most 64 bytes.
-    ghost laws: { HashLaws digest LEN BLOCK };
+    ghost laws: { HashLaws hash };
 
     /// A value that stands for the empty message.
     fn start() -> Self
@@ -45,8 +48,8 @@ pub trait HashAlg: Clone + Drop {
 
     /// The digest of the message.
     fn end(self) -> Tag
-        ensures value { (m : List ℕ) → stands self m → result ≡ digest m }
-        ensures len { length result ≡ LEN };
+        ensures value { (m : List ℕ) → stands self m → result ≡ hash.digest m }
+        ensures len { length result ≡ hash.len };
 
     /// A clone is always made: it takes no memory.
     ghost clones: { (x : Self) → Self.is_infallible x };
@@ -55,10 +58,24 @@ pub trait HashAlg: Clone + Drop {
     ghost equal_clones: { (x y : Self) → Self.is_clone x y → y ≡ x };
 }
 
+/// The length of a digest.
+pub fn digest_len<H: HashAlg>() -> usize
+    ensures { result ≡ H.hash.len }
+{
+    H::LEN
+}
+
+/// The length of a block.
+pub(crate) fn block_len<H: HashAlg>() -> usize
+    ensures { result ≡ H.hash.block }
+{
+    H::BLOCK
+}
+
 /// The digest of one piece.
 pub fn digest<H: HashAlg>(piece: &[u8]) -> Tag
-    ensures value { result ≡ H.digest piece.now }
-    ensures len { length result ≡ H.LEN }
+    ensures value { result ≡ H.hash.digest piece.now }
+    ensures len { length result ≡ H.hash.len }
 {
     let mut hash = H::start();
     hash.add(piece);
@@ -102,13 +119,17 @@ impl HashAlg for Md5Alg {
 
     const BLOCK: usize = 64;
 
+    ghost stands = { StandsMd5 };
+
     ghost LEN = { 16 };
 
     ghost BLOCK = { 64 };
 
-    ghost stands = { StandsMd5 };
+    ghost hash = { md5_hash };
 
-    ghost digest = { md5 };
+    ghost len_is = { refl };
+
+    ghost block_is = { refl };
 
     ghost laws = { md5_laws };
 
@@ -151,13 +172,17 @@ impl HashAlg for Sha1Alg {
 
     const BLOCK: usize = 64;
 
+    ghost stands = { StandsSha1 };
+
     ghost LEN = { 20 };
 
     ghost BLOCK = { 64 };
 
-    ghost stands = { StandsSha1 };
+    ghost hash = { sha1_hash };
 
-    ghost digest = { sha1 };
+    ghost len_is = { refl };
+
+    ghost block_is = { refl };
 
     ghost laws = { sha1_laws };
 
@@ -198,13 +223,17 @@ impl HashAlg for Sha256Alg {
 
     const BLOCK: usize = 64;
 
+    ghost stands = { StandsSha256 };
+
     ghost LEN = { 32 };
 
     ghost BLOCK = { 64 };
 
-    ghost stands = { StandsSha256 };
+    ghost hash = { sha256_hash };
 
-    ghost digest = { sha256 };
+    ghost len_is = { refl };
+
+    ghost block_is = { refl };
 
     ghost laws = { sha256_laws };
 

@@ -3,13 +3,13 @@
 ghost use Rattle.std.specs.Prelude.{◌≡◌, ◌-◌, ◌≤◌, ◌++◌, length, replicate, take};
 ghost use Rattle.ely_hash.specs.Formulas.{block_key, xor_each};
 
-use crate::alg::{HashAlg, digest};
+use crate::alg::{HashAlg, block_len, digest};
 
 /// The key as a block, at the start of the buffer: a longer key is hashed first, and zeros fill the rest.
 pub(crate) fn block_of<H: HashAlg>(key: &[u8]) -> [u8; 64]
-    ensures { take H.BLOCK result ≡ block_key H.digest H.BLOCK key.now }
+    ensures { take H.hash.block result ≡ block_key H.hash key.now }
 {
-    if key.len() <= H::BLOCK {
+    if key.len() <= block_len::<H>() {
         fill_block(key)
     } else {
         fill_block(digest::<H>(key).bytes())

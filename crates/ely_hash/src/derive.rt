@@ -1,4 +1,4 @@
-//! Values derived with HMAC: the code of a whole text, Hi, and the keys that a SCRAM server keeps (RFC 5802). Where a
+//! Values derived with HMAC: the MAC of a whole text, Hi, and the keys that a SCRAM server keeps (RFC 5802). Where a
 //! counter is handed in, each HMAC computation is one step.
 ghost use Rattle.std.specs.Prelude.{◌≡◌, ◌+◌, ◌≤◌, length};
 ghost use Rattle.ely_hash.specs.Formulas.{hmac_of, hi_of, stored_key_of, server_key_of};
@@ -17,10 +17,10 @@ pub struct ScramKeys {
     pub server: Tag,
 }
 
-/// The code of a text under a key (RFC 2104 section 2).
+/// The MAC of a text under a key (RFC 2104 section 2).
 pub fn hmac<H: HashAlg>(key: &[u8], text: &[u8]) -> Tag
-    ensures value { result ≡ hmac_of H.digest H.BLOCK key.now text.now }
-    ensures len { length result ≡ H.LEN }
+    ensures value { result ≡ hmac_of H.hash key.now text.now }
+    ensures len { length result ≡ H.hash.len }
 {
     let mut mac = Hmac::<H>::start(key);
     mac.add(text);
@@ -36,8 +36,8 @@ pub fn hi<H: HashAlg, L: Ledger>(
     steps: &mut Steps<L>,
 ) -> Tag
     requires { 1 ≤ turns }
-    ensures value { result ≡ hi_of H.digest H.BLOCK password.now salt.now turns }
-    ensures len { length result ≡ H.LEN }
+    ensures value { result ≡ hi_of H.hash password.now salt.now turns }
+    ensures len { length result ≡ H.hash.len }
     ensures cost { steps.new ≡ steps.old + turns }
 {
     // The states that have taken the key are copied in each turn: this leaves two compressions of the four.
@@ -60,10 +60,10 @@ pub fn hi<H: HashAlg, L: Ledger>(
 
 /// The keys of a SaltedPassword (RFC 5802 section 3), in two steps.
 pub fn keys_of<H: HashAlg, L: Ledger>(salted: &Tag, steps: &mut Steps<L>) -> ScramKeys
-    ensures stored { result.stored ≡ stored_key_of H.digest H.BLOCK salted.now }
-    ensures server { result.server ≡ server_key_of H.digest H.BLOCK salted.now }
-    ensures stored_len { length result.stored ≡ H.LEN }
-    ensures server_len { length result.server ≡ H.LEN }
+    ensures stored { result.stored ≡ stored_key_of H.hash salted.now }
+    ensures server { result.server ≡ server_key_of H.hash salted.now }
+    ensures stored_len { length result.stored ≡ H.hash.len }
+    ensures server_len { length result.server ≡ H.hash.len }
     ensures cost { steps.new ≡ steps.old + 2 }
 {
     steps.tick();

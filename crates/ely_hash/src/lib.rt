@@ -5,7 +5,7 @@
 //! calls takes memory.
 #![tactic(auto)]
 
-pub use alg::{HashAlg, Md5Alg, Sha1Alg, Sha256Alg, digest};
+pub use alg::{HashAlg, Md5Alg, Sha1Alg, Sha256Alg, digest, digest_len};
 pub use derive::{ScramKeys, hi, hmac, keys_of};
 pub use lists::{same, xor};
 pub use mac::Hmac;

@@ -3,7 +3,7 @@ ghost use Rattle.std.specs.Prelude.{◌≡◌, ℕ, List, [], ◌++◌, length};
 ghost use Rattle.ely_hash.specs.Formulas.{hmac_of};
 ghost use Rattle.ely_hash.specs.Macs.{IsHmac};
 
-use crate::alg::HashAlg;
+use crate::alg::{HashAlg, block_len};
 use crate::block::{block_of, xor_block};
 use crate::tag::Tag;
 
@@ -31,30 +31,31 @@ fn start_with<H: HashAlg>(piece: &[u8]) -> H
 impl<H: HashAlg> Hmac<H> {
     /// An HMAC under this key, with no text yet.
     pub fn start(key: &[u8]) -> Hmac<H>
-        ensures { IsHmac H.stands H.digest H.BLOCK result key.now [] }
+        ensures { IsHmac H.stands H.hash result key.now [] }
     {
         let block = block_of::<H>(key);
         let inner = xor_block(&block, INNER_PAD);
         let outer = xor_block(&block, OUTER_PAD);
+        let len = block_len::<H>();
         Hmac {
-            inner: start_with(&inner[..H::BLOCK]),
-            outer: start_with(&outer[..H::BLOCK]),
+            inner: start_with(&inner[..len]),
+            outer: start_with(&outer[..len]),
         }
     }
 
     /// Adds a piece at the end of the text.
     pub fn add(&mut self, piece: &[u8])
-        ensures { (key text : List ℕ) → IsHmac H.stands H.digest H.BLOCK self.old key text
-            → IsHmac H.stands H.digest H.BLOCK self.new key (text ++ piece.now) }
+        ensures { (key text : List ℕ) → IsHmac H.stands H.hash self.old key text
+            → IsHmac H.stands H.hash self.new key (text ++ piece.now) }
     {
         self.inner.add(piece);
     }
 
-    /// The code of the text under the key.
+    /// The MAC of the text under the key.
     pub fn end(self) -> Tag
-        ensures value { (key text : List ℕ) → IsHmac H.stands H.digest H.BLOCK self key text
-            → result ≡ hmac_of H.digest H.BLOCK key text }
-        ensures len { length result ≡ H.LEN }
+        ensures value { (key text : List ℕ) → IsHmac H.stands H.hash self key text
+            → result ≡ hmac_of H.hash key text }
+        ensures len { length result ≡ H.hash.len }
     {
         let Hmac { inner, mut outer } = self;
         outer.add(inner.end().bytes());

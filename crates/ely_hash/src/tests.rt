@@ -56,7 +56,7 @@ fn in_pieces<H: HashAlg>(key: &[u8], front: &[u8], rest: &[u8]) -> Tag {
 
 // The test suite of RFC 1321, the examples of FIPS 180-4, RFC 2104, RFC 2202 (case 6), RFC 4231 (cases 2 and 6).
 #[test]
-fn digests_and_codes_are_the_published_ones(rt: HostRuntime) -> Result<(), Fail> {
+fn digests_and_macs_are_the_published_ones(rt: HostRuntime) -> Result<(), Fail> {
     let text = b"what do ya want for nothing?";
     let long = b"Test Using Larger Than Block-Size Key - Hash Key First";
     let table = [
@@ -94,8 +94,8 @@ fn digests_and_codes_are_the_published_ones(rt: HostRuntime) -> Result<(), Fail>
             "60e431591ee0b67f0d8a26aacbf5b77f8e0bc6213728c5140546040f0ee37f54",
         ),
     ];
-    for (code, wanted) in table {
-        assert_eq!(rt; hex(rt.alloc(), code.bytes())?.as_str(), wanted);
+    for (tag, wanted) in table {
+        assert_eq!(rt; hex(rt.alloc(), tag.bytes())?.as_str(), wanted);
     }
     Ok(())
 }

@@ -2,12 +2,13 @@
 
 ghost use Rattle.std.specs.Prelude.{◌≡◌, ℕ, ◌+◌, ◌≤◌, List, [], None, false, IfOk, IsSome, length};
 ghost use Rattle.std.specs.Io.KnownBytes.{Consumes};
-ghost use Rattle.ely_io.specs.Reading.{Reader, Next, Answers, Counts};
+ghost use Rattle.ely_io.specs.Lines.{has_lf};
+ghost use Rattle.ely_io.specs.Reading.{Reader, new_reader, Next, Answers, Counts};
 
 use crate::line::{Line, LineFault};
 use crate::source::Source;
 use crate::window::{end_input, end_line, first_lf, read_some, set_aside};
-use ely_base::{NoMemory, Refused};
+use ely_base::{Bytes, NoMemory, Refused};
 use std::alloc::Global;
 use std::marker::Model;
 
@@ -34,9 +35,9 @@ impl Model for LineReader {
 
     ghost Value = { Reader };
 
-    ghost use Rattle.ely_io.specs.View.{seen, IsReader};
+    ghost use Rattle.ely_io.specs.View.{reader_of, IsReader};
 
-    ghost view = { seen };
+    ghost view = { reader_of };
 
     ghost invariant = { IsReader };
 }
@@ -44,7 +45,7 @@ impl Model for LineReader {
 impl LineReader {
     /// A reader that has taken nothing.
     pub fn new(alloc: Global) -> Result<LineReader, NoMemory>
-        ensures { IfOk result (λ reader. reader ≡ record { held = []; taken = 0; given = 0; mark = None; ended = false }) }
+        ensures { IfOk result (λ reader. reader ≡ new_reader) }
     {
         Ok(LineReader {
             buffer: vec![in alloc; 0; BUFFER]?,
@@ -65,11 +66,29 @@ impl LineReader {
         self.given
     }
 
-    /// Whether the last call met the end of the input, so that no later call reads on.
+    /// Whether the last call met the end of the input. A later call would read again.
     pub fn ended(&self) -> bool
         ensures { result ≡ self.now.ended }
     {
         self.ended
+    }
+
+    /// Whether it holds a whole line, so that the next call gives that one without a call of the source.
+    pub fn has_line(&self) -> bool
+        ensures { result ≡ has_lf self.now.held }
+    {
+        first_lf(&self.buffer[self.start..self.end]).is_some()
+    }
+
+    /// Takes back the memory of a line that was given, for a later one.
+    pub fn reuse(&mut self, line: Bytes)
+        ensures { self.new ≡ self.old }
+    {
+        if self.kept.is_empty() {
+            let mut list = line.into_list();
+            list.clear();
+            self.kept = list;
+        }
     }
 
     /// The next line. A fault is answered again from then on, without a call of the source; after want of memory a later
@@ -81,11 +100,12 @@ impl LineReader {
         limit: usize,
     ) -> Result<Line, Refused<LineFault>>
         requires { 1 ≤ limit }
-        ensures line { self.old.mark ≡ None → Next limit self.old self.new (S.left source.old) (S.left source.new) (S.faults source.old) (S.faults source.new) result }
+        ensures line { self.old.mark ≡ None →
+            Next limit self.old self.new (S.seen source.old) (S.seen source.new) result }
         ensures marked { Answers self.old.mark self.old self.new result }
         ensures unread { IsSome self.old.mark → source.new ≡ source.old }
         ensures counts { Counts self.new }
-        ensures later { S.faults source.old ≤ S.faults source.new }
+        ensures later { (S.seen source.old).faults ≤ (S.seen source.new).faults }
     {
         if let Some(fault) = self.mark {
             return Err(Refused::Fault(fault));

@@ -1,39 +1,44 @@
 //! A source and a sink that never fail.
 
-ghost use Rattle.std.specs.Prelude.{◌≡◌, ℕ, List, Option};
+ghost use Rattle.std.specs.Prelude.{◌≡◌};
 
 use crate::memory::copy_at;
 use crate::sink::Sink;
 use crate::source::{Failed, Source};
+use std::marker::Model;
 
-/// A text that is read in one go, and never fails.
+/// A text of which each call reads all that fits. It never fails.
 #[derive(Drop)]
 pub struct SureSource {
     text: Vec<u8>,
     at: usize,
 }
 
+impl Model for SureSource {
+    ghost use Rattle.std.specs.Prelude.{◌≤◌, ℕ, List, drop, length};
+
+    ghost Value = { List ℕ };
+
+    ghost view = { λ s. drop s.at s.text.items };
+
+    ghost invariant = { λ s. s.at ≤ length s.text.items };
+}
+
 impl SureSource {
     /// A source of this text.
     pub fn new(text: Vec<u8>) -> SureSource
-        ensures text { result.text.items ≡ text.items }
-        ensures start { result.at ≡ 0 }
+        ensures { result ≡ text.items }
     {
         SureSource { text, at: 0 }
     }
 }
 
 impl Source for SureSource {
-    ghost use Rattle.std.specs.Prelude.{Some, drop};
+    ghost use Rattle.std.specs.Prelude.{Some};
 
-    ghost left = { λ s. Some (drop s.at s.text.items) };
-
-    ghost faults = { λ _. 0 };
+    ghost seen = { λ s. record { left = Some s; faults = 0 } };
 
     fn read(&mut self, buf: &mut [u8]) -> Result<usize, Failed> {
-        if self.at >= self.text.len() {
-            return Ok(0);
-        }
         let count = (self.text.len() - self.at).min(buf.len());
         copy_at(buf, &self.text, self.at, count);
         self.at += count;
@@ -48,9 +53,7 @@ pub struct SureSink;
 impl Sink for SureSink {
     ghost use Rattle.std.specs.Prelude.{None};
 
-    ghost held = { λ _. None };
-
-    ghost faults = { λ _. 0 };
+    ghost seen = { λ _. record { held = None; faults = 0 } };
 
     fn write(&mut self, piece: &[u8]) -> Result<usize, Failed> {
         Ok(piece.len())

@@ -45,6 +45,17 @@ fn lines_are_those_of_the_bytes_in_any_pieces(rt: HostRuntime) -> Result<(), Fai
 }
 
 #[test]
+fn a_whole_line_that_is_held_is_told(rt: HostRuntime) -> Result<(), Fail> {
+    let mut source = SureSource::new(b"ab\ncd\nef".to_vec(rt.alloc())?);
+    let mut reader = LineReader::new(rt.alloc())?;
+    for held in [true, false, false] {
+        assert!(rt; matches!(&reader.next(rt.alloc(), &mut source, 9), Ok(Line::Text(_))));
+        assert_eq!(rt; reader.has_line(), held);
+    }
+    Ok(())
+}
+
+#[test]
 fn a_failed_read_is_answered_again(rt: HostRuntime) -> Result<(), Fail> {
     let text = b"ab\ncd\n".to_vec(rt.alloc())?;
     let mut source = MemSource::new(text, vec![in rt.alloc(); 4]?, vec![in rt.alloc(); 1]?);
@@ -55,6 +66,7 @@ fn a_failed_read_is_answered_again(rt: HostRuntime) -> Result<(), Fail> {
         let again = reader.next(rt.alloc(), &mut source, 9);
         assert!(rt; matches!(&again, Err(Refused::Fault(LineFault::Read))));
     }
+    assert_eq!(rt; source.calls(), 2);
     Ok(())
 }
 

@@ -12,10 +12,11 @@ use Rattle.ely_plain.specs.declared.message.PlainFault.TheVariants.{NoNul, NotTe
 abbrev pub name_part : List ℕ → Result (List ℕ) PlainFault
 name_part part = refused_as Name (name_of part)
 
--- an authorization name, where the part isn't empty
+-- an authorization name
 abbrev pub some_name : List ℕ → Result (Option (List ℕ)) PlainFault
 some_name part = name_part part >>= λ name. Ok (Some name)
 
+-- no authorization name where the part is empty, and else the name that it is
 abbrev pub authzid_part : List ℕ → Result (Option (List ℕ)) PlainFault
 authzid_part part = if length part == 0 then Ok None else some_name part
 

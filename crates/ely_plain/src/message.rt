@@ -1,12 +1,12 @@
 //! The message of PLAIN: an authorization name that may be empty, a name and a password, with a NUL between two of them
 //! (RFC 4616 section 2).
 
-ghost use Rattle.std.specs.Prelude.{◌≡◌, ◌∷◌};
+ghost use Rattle.std.specs.Prelude.{◌≡◌, ◌∷◌, IfOk};
 ghost use Rattle.ely_base.specs.Parts.{parts_at};
 ghost use Rattle.ely_base.specs.Refused.{Gives};
 ghost use Rattle.ely_plain.specs.Messages.{plain_of, name_part, authzid_part, message_of};
 
-use ely_base::{Bytes, Name, NameFault, Refused, count_of, cut_at, text_len};
+use ely_base::{Bytes, Name, NameFault, NoMemory, Refused, count_of, cut_at, refused_as, text_len};
 use std::alloc::Global;
 
 /// A message of PLAIN.
@@ -16,7 +16,21 @@ pub struct PlainMsg {
     pub authzid: Option<Name>,
     /// Who logs in.
     pub name: Name,
+    /// The password, as it was sent.
     pub password: Bytes,
+}
+
+impl PlainMsg {
+    /// An equal message.
+    pub fn copy(&self, alloc: Global) -> Result<PlainMsg, NoMemory>
+        ensures { IfOk result (λ copy. copy ≡ self.now) }
+    {
+        Ok(PlainMsg {
+            authzid: Name::copy_option(alloc, &self.authzid)?,
+            name: self.name.copy(alloc)?,
+            password: self.password.copy(alloc)?,
+        })
+    }
 }
 
 /// Why bytes are no message of PLAIN, the first fault.
@@ -24,9 +38,11 @@ pub struct PlainMsg {
 pub enum PlainFault {
     /// How many NULs there are, where that isn't 2.
     NoNul(usize),
-    /// The length of the longest front that is UTF-8.
+    /// The length of the longest prefix that is UTF-8.
     NotText(usize),
+    /// The name is empty.
     EmptyName,
+    /// The password is empty.
     EmptyPassword,
     /// The name, or the authorization name, is no name.
     Name(NameFault),
@@ -36,11 +52,7 @@ pub enum PlainFault {
 fn read_name(alloc: Global, part: &[u8]) -> Result<Name, Refused<PlainFault>>
     ensures { Gives result (name_part part.now) }
 {
-    match Name::read(alloc, part) {
-        Ok(name) => Ok(name),
-        Err(Refused::NoMemory) => Err(Refused::NoMemory),
-        Err(Refused::Fault(fault)) => Err(Refused::Fault(PlainFault::Name(fault))),
-    }
+    refused_as(Name::read(alloc, part), PlainFault::Name)
 }
 
 /// The authorization name of a part that isn't empty.

@@ -9,9 +9,9 @@ use Rattle.ely_base.specs.Numbers.{number_of}
 use Rattle.ely_base.specs.Refused.{◌>>=◌, refused_as}
 use Rattle.ely_base.specs.Texts.{base64_of, hex_of}
 use Rattle.ely_row.specs.Cuts.{cut_of}
-use Rattle.ely_row.specs.Salts.{SaltedPassword, HashedA1, is_salt, is_salted_by, is_realm_byte, is_realm_len, is_hashed_by}
+use Rattle.ely_row.specs.Salts.{Salted, Ha1, is_salt, is_salted_by, is_realm_byte, is_realm_len, is_hashed_by}
 use Rattle.ely_row.specs.declared.cred.Credential.{Credential}
-use Rattle.ely_row.specs.declared.cred.Credential.TheVariants.{Clear, Scram1, Scram256, DigestMd5, DigestSha256}
+use Rattle.ely_row.specs.declared.cred.Credential.TheVariants.{Clear, ScramSha1, ScramSha256, DigestMd5, DigestSha256}
 use Rattle.ely_row.specs.declared.fault.CredFault.{CredFault}
 use Rattle.ely_row.specs.declared.fault.CredFault.TheVariants.{Kind, Turns, Base64, Hex, Length, Text}
 
@@ -32,8 +32,8 @@ is_clear text = (if length text == 0 || nat_lt 1024 (length text) then false els
 -- the bounds of each kind
 abbrev pub is_stored : Credential → Bool
 is_stored (Clear password) = is_clear password
-is_stored (Scram1 salted) = is_salted_by 20 salted
-is_stored (Scram256 salted) = is_salted_by 32 salted
+is_stored (ScramSha1 salted) = is_salted_by 20 salted
+is_stored (ScramSha256 salted) = is_salted_by 32 salted
 is_stored (DigestMd5 ha1) = is_hashed_by 16 ha1
 is_stored (DigestSha256 ha1) = is_hashed_by 32 ha1
 
@@ -48,6 +48,7 @@ abbrev pub turns_or : Option ℕ → Result ℕ CredFault
 turns_or None = Err Turns
 turns_or (Some turns) = if turns == 0 then Err Turns else Ok turns
 
+-- the turns that a text is a number of
 abbrev pub turns_of : List ℕ → Result ℕ CredFault
 turns_of text = turns_or (number_of 1000000 text)
 
@@ -56,7 +57,7 @@ abbrev pub base64_part : List ℕ → Result (List ℕ) CredFault
 base64_part text = refused_as (λ f. Base64) (base64_of text)
 
 -- TURNS:SALT:KEY, two base64 texts behind a number; the key has so many bytes
-unfoldable pub salted_of : ℕ → List ℕ → Result SaltedPassword CredFault
+unfoldable pub salted_of : ℕ → List ℕ → Result Salted CredFault
 salted_of len text = do
   first ← ok_or (cut_of text) Turns
   second ← ok_or (cut_of first.1) Turns
@@ -78,7 +79,7 @@ abbrev pub sized_of : ℕ → List ℕ → Result (Unit {0}) CredFault
 sized_of len bytes = if length bytes == len then Ok tt else Err Length
 
 -- HEX:REALM, a hash of so many bytes in hexadecimal
-unfoldable pub hashed_of : ℕ → List ℕ → Result HashedA1 CredFault
+unfoldable pub hashed_of : ℕ → List ℕ → Result Ha1 CredFault
 hashed_of len text = do
   parts ← ok_or (cut_of text) Hex
   hash ← hex_part parts.0
@@ -95,8 +96,8 @@ mapped f (Err e) = Err e
 unfoldable pub cred_of : List ℕ → List ℕ → Result Credential CredFault
 cred_of kind text =
     if bytes_eq kind (codes "clear") then clear_of text
-    else (if bytes_eq kind (codes "scram-sha-1") then mapped Scram1 (salted_of 20 text)
-    else (if bytes_eq kind (codes "scram-sha-256") then mapped Scram256 (salted_of 32 text)
+    else (if bytes_eq kind (codes "scram-sha-1") then mapped ScramSha1 (salted_of 20 text)
+    else (if bytes_eq kind (codes "scram-sha-256") then mapped ScramSha256 (salted_of 32 text)
     else (if bytes_eq kind (codes "digest-md5") then mapped DigestMd5 (hashed_of 16 text)
     else (if bytes_eq kind (codes "digest-sha-256") then mapped DigestSha256 (hashed_of 32 text)
     else Err Kind))))

@@ -3,4 +3,5 @@ pub mod Salts
 pub mod Creds
 pub mod Attributes
 pub mod Rows
+pub mod Edits
 pub mod Dependence

@@ -2,7 +2,7 @@
 
 ghost use Rattle.std.specs.Prelude.{◌≡◌, Some, None, IfOk, IfSome, if◌then◌else◌};
 ghost use Rattle.std.specs.Option.{option_copied};
-ghost use Rattle.ely_row.specs.Rows.{changed, fault_there, fault_absent, row_fault};
+ghost use Rattle.ely_row.specs.Edits.{changed, fault_there, fault_absent, row_fault};
 
 use crate::edit::{Edit, EditFault};
 use crate::row::Row;

@@ -1,6 +1,6 @@
 //! What an identity proves itself with, in the five kinds in which it is stored.
 
-ghost use Rattle.std.specs.Prelude.{◌≡◌, IsTrue, IfOk};
+ghost use Rattle.std.specs.Prelude.{◌≡◌, IsTrue, is_some, IfSome, IfOk};
 ghost use Rattle.std.specs.List.{list_any};
 ghost use Rattle.ely_base.specs.Names.{is_barred};
 ghost use Rattle.ely_base.specs.Refused.{Gives};
@@ -19,9 +19,9 @@ pub enum Credential {
     /// A password as it is: 1 to 1,024 bytes of UTF-8 without NUL and LF.
     Clear(Bytes),
     /// A password salted with SHA-1, of 20 bytes (RFC 5802).
-    Scram1(Salted),
+    ScramSha1(Salted),
     /// A password salted with SHA-256, of 32 bytes (RFC 7677).
-    Scram256(Salted),
+    ScramSha256(Salted),
     /// A hash of MD5, of 16 bytes (RFC 7616).
     DigestMd5(Ha1),
     /// A hash of SHA-256, of 32 bytes (RFC 7616).
@@ -98,15 +98,35 @@ fn read_credential(
     if kind == b"clear".as_slice() {
         read_clear(alloc, text)
     } else if kind == b"scram-sha-1".as_slice() {
-        Ok(Credential::Scram1(read_salted(alloc, 20, text)?))
+        Ok(Credential::ScramSha1(read_salted(alloc, 20, text)?))
     } else if kind == b"scram-sha-256".as_slice() {
-        Ok(Credential::Scram256(read_salted(alloc, 32, text)?))
+        Ok(Credential::ScramSha256(read_salted(alloc, 32, text)?))
     } else if kind == b"digest-md5".as_slice() {
         Ok(Credential::DigestMd5(read_hashed(alloc, 16, text)?))
     } else if kind == b"digest-sha-256".as_slice() {
         Ok(Credential::DigestSha256(read_hashed(alloc, 32, text)?))
     } else {
         Err(Refused::Fault(CredFault::Kind))
+    }
+}
+
+/// Whether the password is of 1 to 1,024 bytes of UTF-8 without NUL and LF.
+fn is_clear(password: &[u8]) -> bool
+    ensures { result ≡ is_clear password.now }
+{
+    !password.is_empty() && password.len() <= 1024 && is_password(password)
+}
+
+/// Whether the credential is within the bounds of its kind.
+fn is_stored(credential: &Credential) -> bool
+    ensures { result ≡ is_stored credential.now }
+{
+    match credential {
+        Credential::Clear(password) => is_clear(password.bytes()),
+        Credential::ScramSha1(salted) => salted.is_of(20),
+        Credential::ScramSha256(salted) => salted.is_of(32),
+        Credential::DigestMd5(ha1) => ha1.is_of(16),
+        Credential::DigestSha256(ha1) => ha1.is_of(32),
     }
 }
 
@@ -125,6 +145,17 @@ impl StoredCred {
         })
     }
 
+    /// Keeps a credential; `None` exactly where it is out of the bounds of its kind. It takes no memory.
+    pub fn of(credential: Credential) -> Option<StoredCred>
+        ensures bounds { is_some result ≡ is_stored credential }
+        ensures value { IfSome result (λ cred. cred ≡ credential) }
+    {
+        if !is_stored(&credential) {
+            return None;
+        }
+        Some(StoredCred { credential })
+    }
+
     /// The credential by its kind.
     pub fn credential(&self) -> &Credential
         ensures value { result.now ≡ self.now }
@@ -139,8 +170,8 @@ impl StoredCred {
     {
         let credential = match &self.credential {
             Credential::Clear(password) => Credential::Clear(password.copy(alloc)?),
-            Credential::Scram1(salted) => Credential::Scram1(salted.copy(alloc)?),
-            Credential::Scram256(salted) => Credential::Scram256(salted.copy(alloc)?),
+            Credential::ScramSha1(salted) => Credential::ScramSha1(salted.copy(alloc)?),
+            Credential::ScramSha256(salted) => Credential::ScramSha256(salted.copy(alloc)?),
             Credential::DigestMd5(ha1) => Credential::DigestMd5(ha1.copy(alloc)?),
             Credential::DigestSha256(ha1) => Credential::DigestSha256(ha1.copy(alloc)?),
         };

@@ -16,6 +16,6 @@ pub(crate) fn cut(text: &[u8]) -> Option<(&[u8], &[u8])>
 {
     match first_colon(text) {
         None => None,
-        Some(place) => Some((&text[..place], &text[place + 1..])),
+        Some(at) => Some((&text[..at], &text[at + 1..])),
     }
 }

@@ -56,9 +56,11 @@ impl Deps {
     }
 }
 
-/// Whether the edit changes one of the places: its realm and its name are those of a pair.
+/// Whether the edit changes one of the places: it is of the realm and the name of a pair.
 pub fn touches(edit: &Edit, deps: &Deps) -> bool
     ensures { result ≡ touches edit.now deps.now }
 {
-    deps.all().iter().any(|place| edit.realm().is(&place.0) && edit.name().is(&place.1))
+    deps.all()
+        .iter()
+        .any(|place| edit.is_of(&place.0, &place.1))
 }

@@ -1,7 +1,7 @@
 //! The edits of the journal, and why one is refused.
 
 ghost use Rattle.std.specs.Prelude.{◌≡◌, IfOk};
-ghost use Rattle.ely_row.specs.Rows.{realm_of, name_of};
+ghost use Rattle.ely_row.specs.Edits.{realm_of, name_of, is_of};
 
 use crate::cred::StoredCred;
 use crate::values::Values;
@@ -76,6 +76,13 @@ impl Edit {
             Edit::SetAttr { name, .. } => name,
             Edit::DropAttr { name, .. } => name,
         }
+    }
+
+    /// Whether it is of this realm and this name.
+    pub fn is_of(&self, realm: &Name, name: &Name) -> bool
+        ensures { result ≡ is_of realm.now name.now self.now }
+    {
+        self.realm().is(realm) && self.name().is(name)
     }
 
     /// An equal edit.

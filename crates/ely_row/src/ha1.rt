@@ -1,6 +1,6 @@
 //! The hash that Digest keeps in place of a password, H(A1) of RFC 7616 section 3.4.2, with the realm that stands in it.
 
-ghost use Rattle.std.specs.Prelude.{◌≡◌, ◌⊎◌, length, IsTrue, IfOk};
+ghost use Rattle.std.specs.Prelude.{◌≡◌, ◌⊎◌, length, IsTrue, is_some, IfSome, IfOk};
 ghost use Rattle.std.specs.List.{list_all};
 ghost use Rattle.ely_base.specs.Refused.{Gives};
 ghost use Rattle.ely_row.specs.Creds.{hex_part, mapped, sized_of, digest_realm_of, hashed_of};
@@ -22,9 +22,9 @@ pub struct Ha1 {
 
 impl Model for Ha1 {
     ghost use Rattle.std.specs.Prelude.{IsTrue};
-    ghost use Rattle.ely_row.specs.Salts.{HashedA1, is_hashed};
+    ghost use Rattle.ely_row.specs.Salts.{Ha1, is_hashed};
 
-    ghost Value = { HashedA1 };
+    ghost Value = { Ha1 };
 
     ghost view = { λ h. record { realm = h.realm; hash = h.hash } };
 
@@ -99,7 +99,33 @@ pub(crate) fn read_hashed(alloc: Global, len: usize, text: &[u8]) -> Result<Ha1,
     Ok(Ha1 { realm, hash })
 }
 
+/// Whether the bytes may be the realm of a hash.
+fn is_realm(realm: &[u8]) -> bool
+    ensures { result ≡ is_realm realm.now }
+{
+    1 <= realm.len() && realm.len() <= 255 && are_realm_bytes(realm)
+}
+
 impl Ha1 {
+    /// Keeps a hash with its realm; `None` exactly where one is out of its bounds. It takes no memory.
+    pub fn of(realm: Bytes, hash: Tag) -> Option<Ha1>
+        ensures bounds { is_some result ≡ is_hashed (record { realm = realm; hash = hash }) }
+        ensures value { IfSome result (λ h. h ≡ record { realm = realm; hash = hash }) }
+    {
+        let len = hash.bytes().len();
+        if !is_realm(realm.bytes()) || (len != 16 && len != 32) {
+            return None;
+        }
+        Some(Ha1 { realm, hash })
+    }
+
+    /// Whether the hash has so many bytes.
+    pub(crate) fn is_of(&self, len: usize) -> bool
+        ensures { result ≡ is_hashed_by len self.now }
+    {
+        self.hash.bytes().len() == len
+    }
+
     /// The realm.
     pub fn realm(&self) -> &Bytes
         ensures { result.now ≡ self.now.realm }

@@ -1,7 +1,7 @@
 //! What derives keys of a clear password, beside the password: the turns, the salt and the seed of derived salts.
 
 ghost use Rattle.std.specs.Prelude.{◌≡◌, ◌≤◌, [], length, IsTrue, IfOk, None};
-ghost use Rattle.ely_row.specs.Salts.{is_turns, is_salt_or_none, is_derivation, plain_derivation};
+ghost use Rattle.ely_row.specs.Salts.{is_turns, is_salt_or_none, is_params, plain_params};
 
 use ely_base::{Bytes, NoMemory};
 use std::alloc::Global;
@@ -17,13 +17,13 @@ pub struct Params {
 
 impl Model for Params {
     ghost use Rattle.std.specs.Prelude.{IsTrue};
-    ghost use Rattle.ely_row.specs.Salts.{Derivation, is_derivation};
+    ghost use Rattle.ely_row.specs.Salts.{Params, is_params};
 
-    ghost Value = { Derivation };
+    ghost Value = { Params };
 
     ghost view = { λ p. record { turns = p.turns; salt = p.salt; seed = p.seed } };
 
-    ghost invariant = { λ p. IsTrue (is_derivation (record { turns = p.turns; salt = p.salt; seed = p.seed })) };
+    ghost invariant = { λ p. IsTrue (is_params (record { turns = p.turns; salt = p.salt; seed = p.seed })) };
 }
 
 /// An equal salt, where there is one.
@@ -39,7 +39,7 @@ fn copy_salt(alloc: Global, salt: &Option<Bytes>) -> Result<Option<Bytes>, NoMem
 impl Params {
     /// Keeps the parts, which are in their bounds. It takes no memory.
     pub fn of(turns: u32, salt: Option<Bytes>, seed: Bytes) -> Params
-        requires { IsTrue (is_derivation (record { turns = turns; salt = salt; seed = seed })) }
+        requires { IsTrue (is_params (record { turns = turns; salt = salt; seed = seed })) }
         ensures { result ≡ record { turns = turns; salt = salt; seed = seed } }
     {
         Params { turns, salt, seed }
@@ -47,7 +47,7 @@ impl Params {
 
     /// What holds where nothing else is said: 4,096 turns, derived salts and an empty seed.
     pub fn plain(alloc: Global) -> Params
-        ensures { result ≡ plain_derivation }
+        ensures { result ≡ plain_params }
     {
         Params {
             turns: 4096,
@@ -59,7 +59,7 @@ impl Params {
     /// The turns.
     pub fn turns(&self) -> u32
         ensures value { result ≡ self.now.turns }
-        ensures bounds { IsTrue (is_derivation self.now) }
+        ensures bounds { IsTrue (is_params self.now) }
     {
         self.turns
     }

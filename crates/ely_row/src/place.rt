@@ -1,12 +1,27 @@
 //! Where an identity stands, and why a name has no place.
 
-use ely_base::{Bytes, Name};
+ghost use Rattle.std.specs.Prelude.{◌≡◌, IfOk};
+
+use ely_base::{Bytes, Name, NoMemory};
+use std::alloc::Global;
 
 /// A realm, and the name of an identity there.
 #[derive(Debug, Drop)]
 pub struct Place {
     pub realm: Name,
     pub name: Name,
+}
+
+impl Place {
+    /// An equal place.
+    pub fn copy(&self, alloc: Global) -> Result<Place, NoMemory>
+        ensures { IfOk result (λ copy. copy ≡ self.now) }
+    {
+        Ok(Place {
+            realm: self.realm.copy(alloc)?,
+            name: self.name.copy(alloc)?,
+        })
+    }
 }
 
 /// The first stage on the way from a name to its place that gives nothing.

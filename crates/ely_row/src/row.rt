@@ -4,7 +4,7 @@ ghost use Rattle.std.specs.Prelude.{◌≡◌, ◌≤◌, IsTrue, length, IfOk, 
 ghost use Rattle.std.specs.Option.{option_copied};
 ghost use Rattle.std.specs.Ordering.{nat_cmp};
 ghost use Rattle.std.specs.BTreeMap.{IsOrdered, insert_entry};
-ghost use Rattle.ely_row.specs.Rows.{IsRow, name_cmp, no_row, cred_of, has_cred, has_attr, attr_of, has_cred_room, has_attr_room, with_cred, without_cred, with_attr, without_attr};
+ghost use Rattle.ely_row.specs.Rows.{IsRow, name_cmp, empty_row, cred_at, has_cred, has_attr, attr_at, has_cred_room, has_attr_room, with_cred, without_cred, with_attr, without_attr};
 
 use crate::cred::StoredCred;
 use crate::values::Values;
@@ -28,9 +28,9 @@ pub struct Row {
 }
 
 impl Model for Row {
-    ghost use Rattle.ely_row.specs.Rows.{Identity, IsRow};
+    ghost use Rattle.ely_row.specs.Rows.{Row, IsRow};
 
-    ghost Value = { Identity };
+    ghost Value = { Row };
 
     ghost view = { λ r. record { creds = r.creds.entries; attrs = r.attrs.entries } };
 
@@ -43,7 +43,8 @@ fn put_cred(
     slot: u8,
     cred: StoredCred,
 ) -> Result<(), NoMemory>
-    ensures entries { OnOk result (creds.new.entries ≡ insert_entry nat_cmp creds.old.entries slot cred) }
+    ensures entries { OnOk result
+        (creds.new.entries ≡ insert_entry nat_cmp creds.old.entries slot cred) }
     ensures rise { IsOrdered nat_cmp creds.new }
 {
     creds.insert(slot, cred)?;
@@ -83,7 +84,7 @@ fn copy_attrs(
 impl Row {
     /// An identity without credentials and attributes.
     pub fn new(alloc: Global) -> Row
-        ensures { result ≡ no_row }
+        ensures { result ≡ empty_row }
     {
         Row {
             creds: BTreeMap::new(alloc),
@@ -122,14 +123,14 @@ impl Row {
 
     /// The values of the attribute.
     pub fn attr(&self, attr: &Name) -> Option<&Values>
-        ensures { option_copied result ≡ attr_of attr.now self.now }
+        ensures { option_copied result ≡ attr_at attr.now self.now }
     {
         self.attrs.get(attr)
     }
 
     /// The credential of the slot.
     pub fn cred(&self, slot: u8) -> Option<&StoredCred>
-        ensures { option_copied result ≡ cred_of slot self.now }
+        ensures { option_copied result ≡ cred_at slot self.now }
     {
         self.creds.get(&slot)
     }

@@ -1,7 +1,7 @@
 //! A salted password with the turns and the salt that made it, which SCRAM keeps in place of a password (RFC 5802
 //! section 3). It knows the bounds of its parts and no hash function.
 
-ghost use Rattle.std.specs.Prelude.{◌≡◌, ◌⊎◌, ◌≤◌, IsTrue, IfOk};
+ghost use Rattle.std.specs.Prelude.{◌≡◌, ◌⊎◌, ◌≤◌, IsTrue, is_some, IfSome, IfOk};
 ghost use Rattle.ely_base.specs.Refused.{Gives};
 ghost use Rattle.ely_row.specs.Creds.{turns_of, base64_part, salted_of};
 ghost use Rattle.ely_row.specs.Salts.{is_turns, is_salt, is_salted, is_salted_by};
@@ -26,9 +26,9 @@ pub struct Salted {
 
 impl Model for Salted {
     ghost use Rattle.std.specs.Prelude.{IsTrue};
-    ghost use Rattle.ely_row.specs.Salts.{SaltedPassword, is_salted};
+    ghost use Rattle.ely_row.specs.Salts.{Salted, is_salted};
 
-    ghost Value = { SaltedPassword };
+    ghost Value = { Salted };
 
     ghost view = { λ s. record { turns = s.turns; salt = s.salt; salted = s.salted } };
 
@@ -98,7 +98,39 @@ pub(crate) fn read_salted(
     }
 }
 
+/// Whether there may be so many turns.
+fn is_turns(turns: u32) -> bool
+    ensures { result ≡ is_turns turns }
+{
+    1 <= turns && u64::from(turns) <= MOST_TURNS
+}
+
 impl Salted {
+    /// Keeps the parts; `None` exactly where one is out of its bounds. It takes no memory.
+    pub fn of(turns: u32, salt: Bytes, salted: Tag) -> Option<Salted>
+        ensures bounds { is_some result
+            ≡ is_salted (record { turns = turns; salt = salt; salted = salted }) }
+        ensures value { IfSome result
+            (λ s. s ≡ record { turns = turns; salt = salt; salted = salted }) }
+    {
+        let len = salted.bytes().len();
+        if !is_turns(turns) || !is_salt(salt.bytes()) || (len != 20 && len != 32) {
+            return None;
+        }
+        Some(Salted {
+            turns,
+            salt,
+            salted,
+        })
+    }
+
+    /// Whether the salted password has so many bytes.
+    pub(crate) fn is_of(&self, len: usize) -> bool
+        ensures { result ≡ is_salted_by len self.now }
+    {
+        self.salted.bytes().len() == len
+    }
+
     /// How many turns made it.
     pub fn turns(&self) -> u32
         ensures value { result ≡ self.now.turns }

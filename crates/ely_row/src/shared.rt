@@ -2,7 +2,7 @@
 
 ghost use Rattle.std.specs.Prelude.{◌≡◌, ℕ, List, Option, IfOk};
 ghost use Rattle.std.specs.Option.{option_copied};
-ghost use Rattle.ely_row.specs.Rows.{Identity};
+ghost use Rattle.ely_row.specs.Rows.{Row};
 
 use crate::row::Row;
 use ely_base::{Name, NoMemory};
@@ -17,10 +17,10 @@ pub struct SharedRow {
 }
 
 impl Model for SharedRow {
-    ghost use Rattle.ely_row.specs.Rows.{Identity};
+    ghost use Rattle.ely_row.specs.Rows.{Row};
     ghost use Rattle.std.specs.Arc.{arc_value};
 
-    ghost Value = { Identity };
+    ghost Value = { Row };
 
     ghost view = { λ s. arc_value s.row };
 }
@@ -55,7 +55,7 @@ impl SharedRow {
 /// Whoever has rows by their realm and their name.
 pub trait RowSource {
     /// The row of a name in a realm, where there is one.
-    ghost rows: { Self → List ℕ → List ℕ → Option Identity };
+    ghost rows: { Self → List ℕ → List ℕ → Option Row };
 
     /// The row of the name in the realm.
     fn row_now(&self, realm: &Name, name: &Name) -> Option<&Row>

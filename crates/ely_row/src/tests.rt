@@ -1,8 +1,9 @@
 use crate::{
-    CredFault, Credential, Deps, Edit, EditFault, Params, Row, SharedRow, StoredCred, Values,
-    changed, row_fault, touches,
+    CredFault, Credential, Deps, Edit, EditFault, Ha1, Params, Place, Row, Salted, SharedRow,
+    StoredCred, Values, changed, row_fault, touches,
 };
-use ely_base::{Name, NoMemory, Refused};
+use ely_base::{Bytes, Name, NoMemory, Refused};
+use ely_hash::Tag;
 use std::alloc::Global;
 use std::test::Fail;
 
@@ -210,8 +211,8 @@ fn shape(alloc: Global, kind: &[u8], text: &[u8]) -> Result<(u32, usize), NoMemo
     let copy = cred.copy(alloc)?;
     match copy.credential() {
         Credential::Clear(password) => Ok((0, password.bytes().len())),
-        Credential::Scram1(salted) => Ok((salted.turns(), salted.salted().bytes().len())),
-        Credential::Scram256(salted) => Ok((salted.turns(), salted.salt().bytes().len())),
+        Credential::ScramSha1(salted) => Ok((salted.turns(), salted.salted().bytes().len())),
+        Credential::ScramSha256(salted) => Ok((salted.turns(), salted.salt().bytes().len())),
         Credential::DigestMd5(ha1) => Ok((0, ha1.hash().bytes().len())),
         Credential::DigestSha256(ha1) => Ok((0, ha1.realm().bytes().len())),
     }
@@ -239,6 +240,61 @@ fn credentials_of_every_kind_are_copied_whole(rt: HostRuntime) -> Result<(), Fai
     assert!(rt;
         params.turns() == 4096 && params.salt().is_none() && params.seed().bytes().is_empty()
     );
+    Ok(())
+}
+
+/// The salted password of so many turns, a salt of so many bytes and a key of so many, where there is one.
+fn salted(alloc: Global, turns: u32, salt: u8, key: usize) -> Result<Option<Salted>, NoMemory> {
+    let bytes = [7; 65];
+    let salt = Bytes::copy_of(alloc, bytes.get(..usize::from(salt)).unwrap_or(&bytes))?;
+    Ok(
+        bytes
+            .get(..key)
+            .and_then(Tag::of)
+            .and_then(|key| Salted::of(turns, salt, key)),
+    )
+}
+
+#[test]
+fn parts_make_a_credential_within_its_bounds(rt: HostRuntime) -> Result<(), Fail> {
+    let rows = [
+        (1, 1, 20, true),
+        (1_000_000, 64, 20, true),
+        (0, 1, 20, false),
+        (1_000_001, 1, 20, false),
+        (1, 0, 20, false),
+        (1, 65, 20, false),
+        (1, 1, 16, false),
+    ];
+    for (turns, salt, key, kept) in rows {
+        let made = salted(rt.alloc(), turns, salt, key)?;
+        assert!(rt; made.is_some() == kept);
+        assert!(rt; made.is_none_or(|s| StoredCred::of(Credential::ScramSha1(s)).is_some()));
+    }
+    let longer = salted(rt.alloc(), 1, 1, 32)?;
+    assert!(rt; longer.is_some_and(|s| StoredCred::of(Credential::ScramSha1(s)).is_none()));
+    Ok(())
+}
+
+#[test]
+fn a_hash_has_a_realm_of_printable_bytes(rt: HostRuntime) -> Result<(), Fail> {
+    let rows: [(&[u8], bool); 4] = [
+        (b"a@b", true),
+        (b"", false),
+        (b"a\"b", false),
+        (b"\xC3\xA4", false),
+    ];
+    for (realm, kept) in rows {
+        let realm = Bytes::copy_of(rt.alloc(), realm)?;
+        let made = Tag::of(&[1; 16]).and_then(|hash| Ha1::of(realm, hash));
+        assert!(rt; made.is_some() == kept);
+    }
+    let place = Place {
+        realm: name(rt.alloc(), b"main")?,
+        name: name(rt.alloc(), b"u")?,
+    };
+    let copy = place.copy(rt.alloc())?;
+    assert!(rt; copy.realm.is(&place.realm) && copy.name.is(&place.name));
     Ok(())
 }
 

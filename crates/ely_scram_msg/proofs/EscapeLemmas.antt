@@ -13,21 +13,14 @@ use Rattle.std.proofs.lemmas.Str.{IsUtf8-append, IsUtf8-take, IsUtf8-drop, IsCha
 use Rattle.ely_base.specs.Names.{IsName, is_barred, name_fault, name_of, name_or}
 use Rattle.ely_base.specs.declared.name.NameFault.{NameFault}
 use Rattle.ely_base.specs.declared.name.NameFault.TheVariants.{Empty, Long, NotText, Barred}
+use Rattle.ely_base.proofs.NameLemmas.{none_of, map_none}
 use Rattle.ely_scram_msg.specs.Saslnames.{is_escape, bad_escape, unescaped}
 
--- from one place on, the first bad escape stands there or further on
+-- from one offset on, the first bad escape stands there or further on
 bad_at : (xs : List ℕ) (i : ℕ) → i < length xs → bad_escape (drop i xs) ≡ cond (eqb (get_or xs i 0) 61 && not (is_escape (drop (suc i) xs))) (Some 0) (option_map (λ k. k + 1) (bad_escape (drop (suc i) xs)))
 bad_at [] i within = absurd (omega arith)
 bad_at (c ∷ cs) zero within = refl
 bad_at (c ∷ cs) (suc i) within = bad_at cs i (omega arith)
-
-none_of : {X : Type 0} (b : Bool) (f : X) (o : Option X) → cond b (Some f) o ≡ None → (b ≡ false) × (o ≡ None)
-none_of true f o h = absurd cc
-none_of false f o h = (refl, h)
-
-map_none : {X Y : Type 0} (f : X → Y) (o : Option X) → option_map f o ≡ None → o ≡ None
-map_none f None h = refl
-map_none f (Some x) h = absurd cc
 
 -- no bad escape is left behind the first byte
 none_behind : (c : ℕ) (cs : List ℕ) → bad_escape (c ∷ cs) ≡ None → ((eqb c 61 && not (is_escape cs)) ≡ false) × (bad_escape cs ≡ None)
@@ -59,7 +52,7 @@ record Code (d e : ℕ) : Type 0 where
 code : (d e : ℕ) (after : List ℕ) → is_escape (d ∷ e ∷ after) ≡ true → Code d e
 code d e after h = record { first = grind (arith, nat_tests); second = grind (arith, nat_tests) }
 
--- where no bad escape stands at a place, the first one is searched from the next place on
+-- where no bad escape stands at a offset, the first one is searched from the next offset on
 pub bad_more : (xs : List ℕ) (i : ℕ) → i < length xs → (eqb (get_or xs i 0) 61 && not (is_escape (drop (i + 1) xs))) ≡ false → option_map (λ k. i + k) (bad_escape (drop i xs)) ≡ option_map (λ k. i + 1 + k) (bad_escape (drop (i + 1) xs))
 bad_more xs i within h =
     let e : suc i ≡ i + 1 = omega arith in

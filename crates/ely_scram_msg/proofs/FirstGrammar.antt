@@ -12,8 +12,8 @@ use Rattle.ely_scram_msg.specs.declared.fault.MsgFault.{MsgFault}
 use Rattle.ely_scram_msg.specs.declared.first.Flag.{Flag}
 use Rattle.ely_scram_msg.specs.declared.first.Flag.TheVariants.{N, Y}
 use Rattle.ely_scram_msg.specs.declared.first.ClientFirst.{ClientFirst}
-use Rattle.ely_scram_msg.specs.Placed.{Placed}
-use Rattle.ely_scram_msg.specs.Fields.{placed_from, fields_of, due, value_of}
+use Rattle.ely_scram_msg.specs.Located.{Located}
+use Rattle.ely_scram_msg.specs.Fields.{located_from, fields_of, due, value_of}
 use Rattle.ely_scram_msg.specs.Saslnames.{saslname_of}
 use Rattle.ely_scram_msg.specs.Nonces.{nonce_of}
 use Rattle.ely_scram_msg.specs.Extensions.{extensions_of}
@@ -40,7 +40,7 @@ flag_read bytes flag h =
       ]
     ]
 
-pub authzid_read : (field : Placed) (o : Option (List ℕ)) → list_any is_comma field.text ≡ false → authzid_of field ≡ Ok o → IsAuthzid field.text o
+pub authzid_read : (field : Located) (o : Option (List ℕ)) → list_any is_comma field.text ≡ false → authzid_of field ≡ Ok o → IsAuthzid field.text o
 authzid_read field o lacks h =
     elim (chosen (eqb (length field.text) 0) (Ok None) (value_of 97 field >>= saslname_of >>= λ name. Ok (Some name)) (Ok o) h) [
       | inl empty ↦
@@ -60,7 +60,7 @@ pub record Username (text name : List ℕ) : Type 0 where
   pub is : text ≡ 110 ∷ 61 ∷ value
   pub name_is : IsSaslnameOf value name
 
-pub username_read : (field : Placed) (name : List ℕ) → list_any is_comma field.text ≡ false → username_of field ≡ Ok name → Username field.text name
+pub username_read : (field : Located) (name : List ℕ) → list_any is_comma field.text ≡ false → username_of field ≡ Ok name → Username field.text name
 username_read field name lacks h =
     let v = bind_ok (value_of 110 field) saslname_of name h in
     let is = (value_read 110 field v.0 v.1).1 in
@@ -70,7 +70,7 @@ split_flag : (flag : Flag) (rest : List ℕ) → slice_split (λ b. b == 44) (fl
 split_flag N rest = refl
 split_flag Y rest = refl
 
-abbrev after_flag : List ℕ → Flag → List Placed → Result ClientFirst MsgFault
+abbrev after_flag : List ℕ → Flag → List Located → Result ClientFirst MsgFault
 after_flag bytes flag fields = do
   before ← due (length bytes) fields
   second ← due (length bytes) before.1
@@ -85,28 +85,28 @@ after_flag bytes flag fields = do
     authzid = authzid;
     name = name;
     nonce = nonce;
-    gs2 = take third.0.place bytes;
-    bare = drop third.0.place bytes;
+    gs2 = take third.0.offset bytes;
+    bare = drop third.0.offset bytes;
   })
 
-spelled : (bytes rest : List ℕ) (flag : Flag) (texts : List (List ℕ)) (m : ClientFirst) → IsUtf8 bytes → no_commas texts ≡ true → bytes ≡ flag_byte flag ∷ 44 ∷ rest → rest ≡ join_with_byte 44 texts → after_flag bytes flag (placed_from 0 ((flag_byte flag ∷ []) ∷ texts)) ≡ Ok m → IsClientFirst bytes m
+spelled : (bytes rest : List ℕ) (flag : Flag) (texts : List (List ℕ)) (m : ClientFirst) → IsUtf8 bytes → no_commas texts ≡ true → bytes ≡ flag_byte flag ∷ 44 ∷ rest → rest ≡ join_with_byte 44 texts → after_flag bytes flag (located_from 0 ((flag_byte flag ∷ []) ∷ texts)) ≡ Ok m → IsClientFirst bytes m
 spelled bytes rest flag [] m text lack is cut h = absurd cc
-spelled bytes rest flag (t1 ∷ []) m text lack is cut h = absurd (cc ((bind_ok (authzid_of (record { place = 2; text = t1 })) _ m h).2))
+spelled bytes rest flag (t1 ∷ []) m text lack is cut h = absurd (cc ((bind_ok (authzid_of (record { offset = 2; text = t1 })) _ m h).2))
 spelled bytes rest flag (t1 ∷ t2 ∷ []) m text lack is cut h =
-    let a = bind_ok (authzid_of (record { place = 2; text = t1 })) _ m h in
-    absurd (cc ((bind_ok (username_of (record { place = 2 + length t1 + 1; text = t2 })) _ m a.2).2))
+    let a = bind_ok (authzid_of (record { offset = 2; text = t1 })) _ m h in
+    absurd (cc ((bind_ok (username_of (record { offset = 2 + length t1 + 1; text = t2 })) _ m a.2).2))
 spelled bytes rest flag (t1 ∷ t2 ∷ t3 ∷ ts) m text lack is cut h =
     let p = 2 + length t1 + 1 in
     let q = p + length t2 + 1 in
-    let a = bind_ok (authzid_of (record { place = 2; text = t1 })) _ m h in
-    let b = bind_ok (username_of (record { place = p; text = t2 })) _ m a.2 in
-    let c = bind_ok (nonce_of (record { place = q; text = t3 })) _ m b.2 in
-    let d = bind_ok (extensions_of (placed_from (q + length t3 + 1) ts)) _ m c.2 in
+    let a = bind_ok (authzid_of (record { offset = 2; text = t1 })) _ m h in
+    let b = bind_ok (username_of (record { offset = p; text = t2 })) _ m a.2 in
+    let c = bind_ok (nonce_of (record { offset = q; text = t3 })) _ m b.2 in
+    let d = bind_ok (extensions_of (located_from (q + length t3 + 1) ts)) _ m c.2 in
     let l1 = first_lacks t1 (t2 ∷ t3 ∷ ts) lack in
     let l2 = first_lacks t2 (t3 ∷ ts) l1.1 in
     let l3 = first_lacks t3 ts l2.1 in
-    let u = username_read (record { place = p; text = t2 }) b.0 l2.0 b.1 in
-    let n = nonce_read (record { place = q; text = t3 }) c.0 c.1 in
+    let u = username_read (record { offset = p; text = t2 }) b.0 l2.0 b.1 in
+    let n = nonce_read (record { offset = q; text = t3 }) c.0 c.1 in
     let tail = join_with_byte 44 (t2 ∷ t3 ∷ ts) in
     let head = flag_byte flag ∷ 44 ∷ t1 ++ 44 ∷ [] in
     let whole : bytes ≡ head ++ tail = is ∙ ap (λ (xs : List ℕ). flag_byte flag ∷ 44 ∷ xs) (cut ∙ sym (append_assoc t1 (44 ∷ []) tail)) in
@@ -126,7 +126,7 @@ spelled bytes rest flag (t1 ∷ t2 ∷ t3 ∷ ts) m text lack is cut h =
       whole = sym (take-append-drop p bytes);
       gs2 = front;
       bare = back ∙ end;
-      is_authzid = authzid_read (record { place = 2; text = t1 }) a.0 l1.0 a.1;
+      is_authzid = authzid_read (record { offset = 2; text = t1 }) a.0 l1.0 a.1;
       is_name = u.name_is;
       is_nonce = n.1;
       are_extensions = extensions_read (q + length t3 + 1) ts d.0 l3.1 d.1;
@@ -137,27 +137,27 @@ spelled bytes rest flag (t1 ∷ t2 ∷ t3 ∷ ts) m text lack is cut h =
 pub accepted : (bytes : List ℕ) (m : ClientFirst) → client_first_of bytes ≡ Ok m → IsClientFirst bytes m
 accepted bytes m h =
     let g = guarded (ltb (utf8_valid_len bytes) (length bytes)) _ (first_of bytes) m h in
-    let f = bind_ok (flag_of bytes) (λ flag. after_flag bytes flag (fields_of (record { place = 0; text = bytes }))) m g.1 in
+    let f = bind_ok (flag_of bytes) (λ flag. after_flag bytes flag (fields_of (record { offset = 0; text = bytes }))) m g.1 in
     let r = flag_read bytes f.0 f.1 in
     let texts = slice_split (λ b. b == 44) r.0 in
     let fields : slice_split (λ b. b == 44) bytes ≡ (flag_byte f.0 ∷ []) ∷ texts = ap (slice_split (λ b. b == 44)) r.1 ∙ split_flag f.0 r.0 in
     let text : IsUtf8 bytes = text_where_no_fault bytes g.0 in
-    spelled bytes r.0 f.0 texts m text (parts_lack r.0) r.1 (sym (join_with_byte-slice_split 44 r.0)) (subst (λ (ts : List (List ℕ)). after_flag bytes f.0 (placed_from 0 ts) ≡ Ok m) fields f.2)
+    spelled bytes r.0 f.0 texts m text (parts_lack r.0) r.1 (sym (join_with_byte-slice_split 44 r.0)) (subst (λ (ts : List (List ℕ)). after_flag bytes f.0 (located_from 0 ts) ≡ Ok m) fields f.2)
 
 -- ---- what is in the grammar is read
 
 abbrev ok_name : List ℕ → Result (Option (List ℕ)) MsgFault
 ok_name name = Ok (Some name)
 
-authzid_is : (place : ℕ) (t : List ℕ) (o : Option (List ℕ)) → IsAuthzid t o → authzid_of (record { place = place; text = t }) ≡ Ok o
-authzid_is place t None h = ap (λ (xs : List ℕ). authzid_of (record { place = place; text = xs })) h
-authzid_is place t (Some name) h =
-    ap (λ (xs : List ℕ). authzid_of (record { place = place; text = xs })) h.1
+authzid_is : (offset : ℕ) (t : List ℕ) (o : Option (List ℕ)) → IsAuthzid t o → authzid_of (record { offset = offset; text = t }) ≡ Ok o
+authzid_is offset t None h = ap (λ (xs : List ℕ). authzid_of (record { offset = offset; text = xs })) h
+authzid_is offset t (Some name) h =
+    ap (λ (xs : List ℕ). authzid_of (record { offset = offset; text = xs })) h.1
     ∙ (cond-false (eqb (length (97 ∷ 61 ∷ h.0)) 0) (Ok None) _ (grind (arith, nat_tests))
-    ∙ ap (λ r. r >>= λ n. ok_name n) (bind_is _ _ _ (Ok name) (value_is 97 place h.0) (saslname_is (place + 2) h.0 name h.2)))
+    ∙ ap (λ r. r >>= λ n. ok_name n) (bind_is _ _ _ (Ok name) (value_is 97 offset h.0) (saslname_is (offset + 2) h.0 name h.2)))
 
-username_is : (place : ℕ) (v name : List ℕ) → IsSaslnameOf v name → username_of (record { place = place; text = 110 ∷ 61 ∷ v }) ≡ Ok name
-username_is place v name s = bind_is _ _ _ (Ok name) (value_is 110 place v) (saslname_is (place + 2) v name s)
+username_is : (offset : ℕ) (v name : List ℕ) → IsSaslnameOf v name → username_of (record { offset = offset; text = 110 ∷ 61 ∷ v }) ≡ Ok name
+username_is offset v name s = bind_is _ _ _ (Ok name) (value_is 110 offset v) (saslname_is (offset + 2) v name s)
 
 flag_is : (flag : Flag) (rest : List ℕ) → flag_of (flag_byte flag ∷ 44 ∷ rest) ≡ Ok flag
 flag_is N rest = refl
@@ -195,12 +195,12 @@ grammar_accepted bytes m g =
     let flag : flag_of bytes ≡ Ok m.flag = ap flag_of is ∙ flag_is m.flag rest in
     let test : ltb (utf8_valid_len bytes) (length bytes) ≡ false = no_text_fault bytes g.is_text in
     cond-false (ltb (utf8_valid_len bytes) (length bytes)) _ (first_of bytes) test
-    ∙ bind_is (flag_of bytes) (λ flag. after_flag bytes flag (fields_of (record { place = 0; text = bytes }))) m.flag (Ok m) flag
-    (ap (λ (xs : List (List ℕ)). after_flag bytes m.flag (placed_from 0 xs)) cut
-    ∙ bind_is (authzid_of (record { place = 2; text = t1 })) _ m.authzid (Ok m) (authzid_is 2 t1 m.authzid g.is_authzid)
-    (bind_is (username_of (record { place = p; text = t2 })) _ m.name (Ok m) (username_is p g.name m.name g.is_name)
-    (bind_is (nonce_of (record { place = q; text = t3 })) _ m.nonce (Ok m) (nonce_is q m.nonce g.is_nonce)
-    (bind_is (extensions_of (placed_from (q + length t3 + 1) ts)) _ tt (Ok m) (extensions_are (q + length t3 + 1) ts g.are_extensions)
+    ∙ bind_is (flag_of bytes) (λ flag. after_flag bytes flag (fields_of (record { offset = 0; text = bytes }))) m.flag (Ok m) flag
+    (ap (λ (xs : List (List ℕ)). after_flag bytes m.flag (located_from 0 xs)) cut
+    ∙ bind_is (authzid_of (record { offset = 2; text = t1 })) _ m.authzid (Ok m) (authzid_is 2 t1 m.authzid g.is_authzid)
+    (bind_is (username_of (record { offset = p; text = t2 })) _ m.name (Ok m) (username_is p g.name m.name g.is_name)
+    (bind_is (nonce_of (record { offset = q; text = t3 })) _ m.nonce (Ok m) (nonce_is q m.nonce g.is_nonce)
+    (bind_is (extensions_of (located_from (q + length t3 + 1) ts)) _ tt (Ok m) (extensions_are (q + length t3 + 1) ts g.are_extensions)
     (same (take p bytes) m.gs2 (drop p bytes) m.bare front back)))))
   where
     same : (a b c d : List ℕ) → a ≡ b → c ≡ d → ok_of (record { flag = m.flag; authzid = m.authzid; name = m.name; nonce = m.nonce; gs2 = a; bare = c }) ≡ ok_of (record { flag = m.flag; authzid = m.authzid; name = m.name; nonce = m.nonce; gs2 = b; bare = d })

@@ -11,8 +11,8 @@ use Rattle.ely_base.specs.Refused.{◌>>=◌}
 use Rattle.ely_base.proofs.NameLemmas.{no_fault}
 use Rattle.ely_base.specs.declared.name.NameFault.{NameFault}
 use Rattle.ely_scram_msg.specs.declared.fault.MsgFault.{MsgFault}
-use Rattle.ely_scram_msg.specs.Placed.{Placed}
-use Rattle.ely_scram_msg.specs.Fields.{placed_from, begins, value_of, rest_of_value}
+use Rattle.ely_scram_msg.specs.Located.{Located}
+use Rattle.ely_scram_msg.specs.Fields.{located_from, begins, value_of, rest_of_value}
 use Rattle.ely_scram_msg.specs.Saslnames.{bad_escape, unescaped, saslname_of, or_no_name, without_escape_fault}
 use Rattle.ely_scram_msg.specs.Nonces.{nonce_of, printable_of, all_printable, is_printable}
 use Rattle.ely_scram_msg.specs.Extensions.{is_extension, extension_of, extensions_of}
@@ -94,36 +94,36 @@ text_is letter (x ∷ y ∷ rest) h =
     ap (λ z. z ∷ y ∷ rest) e ∙ ap (λ z. letter ∷ z ∷ rest) f
 
 -- an attribute that is there
-pub value_read : (letter : ℕ) (field part : Placed) → value_of letter field ≡ Ok part → (part ≡ rest_of_value field) × (field.text ≡ letter ∷ 61 ∷ part.text)
+pub value_read : (letter : ℕ) (field part : Located) → value_of letter field ≡ Ok part → (part ≡ rest_of_value field) × (field.text ≡ letter ∷ 61 ∷ part.text)
 value_read letter field part h =
     elim (chosen (begins letter field.text) (Ok (rest_of_value field)) _ (Ok part) h) [
       | inl here ↦
           let e : rest_of_value field ≡ part = cc (here.1) in
-          (sym e, text_is letter field.text here.0 ∙ ap (λ (p : Placed). letter ∷ 61 ∷ p.text) e)
+          (sym e, text_is letter field.text here.0 ∙ ap (λ (p : Located). letter ∷ 61 ∷ p.text) e)
       | inr other ↦ absurd (cc ((guarded (begins 109 field.text) _ _ part other.1).1))
     ]
 
 pub begins_is : (letter : ℕ) (v : List ℕ) → begins letter (letter ∷ 61 ∷ v) ≡ true
 begins_is letter v = grind (arith, nat_tests)
 
-pub value_is : (letter place : ℕ) (v : List ℕ) → value_of letter (record { place = place; text = letter ∷ 61 ∷ v }) ≡ Ok (record { place = place + 2; text = v })
-value_is letter place v = cond-true (begins letter (letter ∷ 61 ∷ v)) _ _ (begins_is letter v)
+pub value_is : (letter offset : ℕ) (v : List ℕ) → value_of letter (record { offset = offset; text = letter ∷ 61 ∷ v }) ≡ Ok (record { offset = offset + 2; text = v })
+value_is letter offset v = cond-true (begins letter (letter ∷ 61 ∷ v)) _ _ (begins_is letter v)
 
 -- ---- saslnames
 
 abbrev ok_bytes : List ℕ → Result (List ℕ) NameFault
 ok_bytes xs = Ok xs
 
-name_read : (place : ℕ) (o : Option NameFault) (bytes name : List ℕ) → or_no_name place (name_or o bytes) ≡ Ok name → (name ≡ bytes) × (o ≡ None)
-name_read place None bytes name h = (cc, refl)
-name_read place (Some f) bytes name h = absurd cc
+name_read : (offset : ℕ) (o : Option NameFault) (bytes name : List ℕ) → or_no_name offset (name_or o bytes) ≡ Ok name → (name ≡ bytes) × (o ≡ None)
+name_read offset None bytes name h = (cc, refl)
+name_read offset (Some f) bytes name h = absurd cc
 
-pub saslname_read : (part : Placed) (name : List ℕ) → list_any is_comma part.text ≡ false → saslname_of part ≡ Ok name → IsSaslnameOf part.text name
+pub saslname_read : (part : Located) (name : List ℕ) → list_any is_comma part.text ≡ false → saslname_of part ≡ Ok name → IsSaslnameOf part.text name
 saslname_read part name lacks h = of (bad_escape part.text) refl h
   where
     of : (o : Option ℕ) → bad_escape part.text ≡ o → without_escape_fault part o ≡ Ok name → IsSaslnameOf part.text name
     of None e h =
-        let n = name_read part.place (name_fault (unescaped part.text)) (unescaped part.text) name h in
+        let n = name_read part.offset (name_fault (unescaped part.text)) (unescaped part.text) name h in
         record {
           no_comma = lacks;
           is_saslname = record { escapes = e; name = no_fault (unescaped part.text) n.1 };
@@ -131,10 +131,10 @@ saslname_read part name lacks h = of (bad_escape part.text) refl h
         }
     of (Some i) e h = absurd cc
 
-pub saslname_is : (place : ℕ) (v name : List ℕ) → IsSaslnameOf v name → saslname_of (record { place = place; text = v }) ≡ Ok name
-saslname_is place v name s =
-    ap (without_escape_fault (record { place = place; text = v })) s.is_saslname.escapes
-    ∙ ap (or_no_name place) (name_reads (unescaped v) s.is_saslname.name ∙ ap ok_bytes (sym s.stands_for))
+pub saslname_is : (offset : ℕ) (v name : List ℕ) → IsSaslnameOf v name → saslname_of (record { offset = offset; text = v }) ≡ Ok name
+saslname_is offset v name s =
+    ap (without_escape_fault (record { offset = offset; text = v })) s.is_saslname.escapes
+    ∙ ap (or_no_name offset) (name_reads (unescaped v) s.is_saslname.name ∙ ap ok_bytes (sym s.stands_for))
 
 -- ---- nonces
 
@@ -167,11 +167,11 @@ printable_lacks (x ∷ xs) h =
 pub nonce_lacks : (nonce : List ℕ) → IsNonce nonce → list_any is_comma nonce ≡ false
 nonce_lacks nonce n = printable_lacks nonce n.printable
 
-printable_read : (part : Placed) (nonce : List ℕ) (o : Option ℕ) → all_printable part o ≡ Ok nonce → (o ≡ None) × (part.text ≡ nonce)
+printable_read : (part : Located) (nonce : List ℕ) (o : Option ℕ) → all_printable part o ≡ Ok nonce → (o ≡ None) × (part.text ≡ nonce)
 printable_read part nonce None h = (refl, cc)
 printable_read part nonce (Some i) h = absurd cc
 
-pub nonce_read : (field : Placed) (nonce : List ℕ) → nonce_of field ≡ Ok nonce → (field.text ≡ 114 ∷ 61 ∷ nonce) × IsNonce nonce
+pub nonce_read : (field : Located) (nonce : List ℕ) → nonce_of field ≡ Ok nonce → (field.text ≡ 114 ∷ 61 ∷ nonce) × IsNonce nonce
 nonce_read field nonce h =
     let v = bind_ok (value_of 114 field) printable_of nonce h in
     let text = v.0.text in
@@ -183,17 +183,17 @@ nonce_read field nonce h =
     let all : list_all is_printable text ≡ true = all_pass text (sym (first_found (λ b. not (is_printable b)) text) ∙ found) in
     ((value_read 114 field v.0 v.1).1 ∙ ap (λ (xs : List ℕ). 114 ∷ 61 ∷ xs) p.1, subst IsNonce p.1 (record { some = some; printable = all }))
 
-pub nonce_is : (place : ℕ) (n : List ℕ) → IsNonce n → nonce_of (record { place = place; text = 114 ∷ 61 ∷ n }) ≡ Ok n
-nonce_is place n is =
+pub nonce_is : (offset : ℕ) (n : List ℕ) → IsNonce n → nonce_of (record { offset = offset; text = 114 ∷ 61 ∷ n }) ≡ Ok n
+nonce_is offset n is =
     let first = position_or_len (λ b. not (is_printable b)) n in
     let some = is.some in
     let printable : position (λ b. not (is_printable b)) n ≡ None = ap (λ b. cond b (Some first) None) (first_found (λ b. not (is_printable b)) n ∙ none_fails n is.printable) in
-    bind_is _ _ _ (Ok n) (value_is 114 place n)
-    (cond-false (eqb (length n) 0) _ _ (grind (arith, nat_tests)) ∙ ap (all_printable (record { place = place + 2; text = n })) printable)
+    bind_is _ _ _ (Ok n) (value_is 114 offset n)
+    (cond-false (eqb (length n) 0) _ _ (grind (arith, nat_tests)) ∙ ap (all_printable (record { offset = offset + 2; text = n })) printable)
 
 -- ---- extensions
 
-pub extension_read : (field : Placed) (u : Unit {0}) → extension_of field ≡ Ok u → (begins 109 field.text ≡ false) × (is_extension field.text ≡ true)
+pub extension_read : (field : Located) (u : Unit {0}) → extension_of field ≡ Ok u → (begins 109 field.text ≡ false) × (is_extension field.text ≡ true)
 extension_read field u h =
     let g = guarded (begins 109 field.text) _ _ u h in
     elim (chosen (is_extension field.text) (Ok tt) _ (Ok u) g.1) [
@@ -201,7 +201,7 @@ extension_read field u h =
       | inr bad ↦ absurd (cc (bad.1))
     ]
 
-pub extension_is : (field : Placed) → begins 109 field.text ≡ false → is_extension field.text ≡ true → extension_of field ≡ Ok tt
+pub extension_is : (field : Located) → begins 109 field.text ≡ false → is_extension field.text ≡ true → extension_of field ≡ Ok tt
 extension_is field h k = cond-false (begins 109 field.text) _ _ h ∙ cond-true (is_extension field.text) _ _ k
 
 -- one more extension
@@ -227,16 +227,16 @@ first_extension t ts h =
       more = record { attributes = a.1; none_reserved = b.1; no_comma = (first_lacks t ts h.no_comma).1 };
     }
 
-pub extensions_read : (place : ℕ) (texts : List (List ℕ)) (u : Unit {0}) → no_commas texts ≡ true → extensions_of (placed_from place texts) ≡ Ok u → AreExtensions texts
-extensions_read place [] u lack h = record { attributes = refl; none_reserved = refl; no_comma = refl }
-extensions_read place (t ∷ ts) u lack h =
-    let one = bind_ok (extension_of (record { place = place; text = t })) _ u h in
-    let e = extension_read (record { place = place; text = t }) one.0 one.1 in
+pub extensions_read : (offset : ℕ) (texts : List (List ℕ)) (u : Unit {0}) → no_commas texts ≡ true → extensions_of (located_from offset texts) ≡ Ok u → AreExtensions texts
+extensions_read offset [] u lack h = record { attributes = refl; none_reserved = refl; no_comma = refl }
+extensions_read offset (t ∷ ts) u lack h =
+    let one = bind_ok (extension_of (record { offset = offset; text = t })) _ u h in
+    let e = extension_read (record { offset = offset; text = t }) one.0 one.1 in
     let l = first_lacks t ts lack in
-    extension_more t ts e.0 e.1 l.0 (extensions_read (place + length t + 1) ts u l.1 one.2)
+    extension_more t ts e.0 e.1 l.0 (extensions_read (offset + length t + 1) ts u l.1 one.2)
 
-pub extensions_are : (place : ℕ) (ts : List (List ℕ)) → AreExtensions ts → extensions_of (placed_from place ts) ≡ Ok tt
-extensions_are place [] h = refl
-extensions_are place (t ∷ ts) h =
+pub extensions_are : (offset : ℕ) (ts : List (List ℕ)) → AreExtensions ts → extensions_of (located_from offset ts) ≡ Ok tt
+extensions_are offset [] h = refl
+extensions_are offset (t ∷ ts) h =
     let f = first_extension t ts h in
-    bind_is (extension_of (record { place = place; text = t })) _ tt (Ok tt) (extension_is (record { place = place; text = t }) f.reserved f.is) (extensions_are (place + length t + 1) ts f.more)
+    bind_is (extension_of (record { offset = offset; text = t })) _ tt (Ok tt) (extension_is (record { offset = offset; text = t }) f.reserved f.is) (extensions_are (offset + length t + 1) ts f.more)

@@ -13,8 +13,8 @@ use Rattle.ely_base.specs.Texts.{base64_of}
 use Rattle.ely_base.specs.declared.texts.TextFault.{TextFault}
 use Rattle.ely_scram_msg.specs.declared.fault.MsgFault.{MsgFault}
 use Rattle.ely_scram_msg.specs.declared.last.ClientLast.{ClientLast}
-use Rattle.ely_scram_msg.specs.Placed.{Placed}
-use Rattle.ely_scram_msg.specs.Fields.{placed_from, due, begins, rest_of_value, value_of}
+use Rattle.ely_scram_msg.specs.Located.{Located}
+use Rattle.ely_scram_msg.specs.Fields.{located_from, due, begins, rest_of_value, value_of}
 use Rattle.ely_scram_msg.specs.Nonces.{nonce_of}
 use Rattle.ely_scram_msg.specs.Extensions.{is_extension, extension_of}
 use Rattle.ely_scram_msg.specs.Base64Texts.{base64_at, or_bad_base64}
@@ -25,20 +25,20 @@ use Rattle.ely_scram_msg.proofs.GrammarLemmas.{bind_ok, bind_is, chosen, guarded
 
 -- ---- base64
 
-decoded_read : (place : ℕ) (r : Result (List ℕ) TextFault) (bytes : List ℕ) → or_bad_base64 place r ≡ Ok bytes → r ≡ Ok bytes
-decoded_read place (Ok x) bytes h = cc
-decoded_read place (Err f) bytes h = absurd cc
+decoded_read : (offset : ℕ) (r : Result (List ℕ) TextFault) (bytes : List ℕ) → or_bad_base64 offset r ≡ Ok bytes → r ≡ Ok bytes
+decoded_read offset (Ok x) bytes h = cc
+decoded_read offset (Err f) bytes h = absurd cc
 
-base64_read : (part : Placed) (bytes : List ℕ) → list_any is_comma part.text ≡ false → base64_at part ≡ Ok bytes → IsBase64Of part.text bytes
+base64_read : (part : Located) (bytes : List ℕ) → list_any is_comma part.text ≡ false → base64_at part ≡ Ok bytes → IsBase64Of part.text bytes
 base64_read part bytes lacks h =
-    let g = guarded (eqb (length part.text) 0) _ (or_bad_base64 part.place (base64_of part.text)) bytes h in
+    let g = guarded (eqb (length part.text) 0) _ (or_bad_base64 part.offset (base64_of part.text)) bytes h in
     let t = g.0 in
-    record { some = grind (arith, nat_tests); no_comma = lacks; stands_for = decoded_read part.place (base64_of part.text) bytes g.1 }
+    record { some = grind (arith, nat_tests); no_comma = lacks; stands_for = decoded_read part.offset (base64_of part.text) bytes g.1 }
 
-base64_is : (place : ℕ) (text bytes : List ℕ) → IsBase64Of text bytes → base64_at (record { place = place; text = text }) ≡ Ok bytes
-base64_is place text bytes is =
+base64_is : (offset : ℕ) (text bytes : List ℕ) → IsBase64Of text bytes → base64_at (record { offset = offset; text = text }) ≡ Ok bytes
+base64_is offset text bytes is =
     let some = is.some in
-    cond-false (eqb (length text) 0) _ _ (grind (arith, nat_tests)) ∙ ap (or_bad_base64 place) is.stands_for
+    cond-false (eqb (length text) 0) _ _ (grind (arith, nat_tests)) ∙ ap (or_bad_base64 offset) is.stands_for
 
 -- ---- the texts behind the nonce
 
@@ -57,20 +57,20 @@ pair_parts xs i ys j h =
     (ap (λ (p : List ℕ × ℕ). p.0) e, ap (λ (p : List ℕ × ℕ). p.1) e)
 
 -- extensions, and then the proof; the bytes before the first of them are k and a comma
-record Ending (k : ℕ) (texts : List (List ℕ)) (bytes : List ℕ) (place : ℕ) : Type 0 where
+record Ending (k : ℕ) (texts : List (List ℕ)) (bytes : List ℕ) (offset : ℕ) : Type 0 where
   extensions : List (List ℕ)
   proof : List ℕ
   is : texts ≡ extensions ++ (112 ∷ 61 ∷ proof) ∷ []
-  at : place ≡ k + length (extensions_text extensions)
+  at : offset ≡ k + length (extensions_text extensions)
   are_extensions : AreExtensions extensions
   none_proof : list_all (λ e. not (begins 112 e)) extensions ≡ true
   is_proof : IsBase64Of proof bytes
 
-proof_read : (k : ℕ) (t : List ℕ) (ts : List (List ℕ)) (bytes : List ℕ) (place : ℕ) → begins 112 t ≡ true → list_any is_comma t ≡ false → proof_of (record { place = k + 1; text = t }) (placed_from (k + 1 + length t + 1) ts) ≡ Ok (bytes, place) → Ending k (t ∷ ts) bytes place
-proof_read k t [] bytes place letter lacks h =
-    let part = rest_of_value (record { place = k + 1; text = t }) in
-    let b = bind_ok (base64_at part) _ (bytes, place) h in
-    let pair = pair_parts b.0 (k + 1 - 1) bytes place b.2 in
+proof_read : (k : ℕ) (t : List ℕ) (ts : List (List ℕ)) (bytes : List ℕ) (offset : ℕ) → begins 112 t ≡ true → list_any is_comma t ≡ false → proof_of (record { offset = k + 1; text = t }) (located_from (k + 1 + length t + 1) ts) ≡ Ok (bytes, offset) → Ending k (t ∷ ts) bytes offset
+proof_read k t [] bytes offset letter lacks h =
+    let part = rest_of_value (record { offset = k + 1; text = t }) in
+    let b = bind_ok (base64_at part) _ (bytes, offset) h in
+    let pair = pair_parts b.0 (k + 1 - 1) bytes offset b.2 in
     let is = text_is 112 t letter in
     record {
       extensions = [];
@@ -81,12 +81,12 @@ proof_read k t [] bytes place letter lacks h =
       none_proof = refl;
       is_proof = base64_read part bytes (sym (ap (list_any is_comma) is) ∙ lacks) (b.1 ∙ ap (λ (xs : List ℕ). ok_bytes xs) pair.0);
     }
-proof_read k t (t2 ∷ ts) bytes place letter lacks h =
-    let b = bind_ok (base64_at (rest_of_value (record { place = k + 1; text = t }))) _ (bytes, place) h in
+proof_read k t (t2 ∷ ts) bytes offset letter lacks h =
+    let b = bind_ok (base64_at (rest_of_value (record { offset = k + 1; text = t }))) _ (bytes, offset) h in
     absurd (cc (b.2))
 
-one_before : (k : ℕ) (t : List ℕ) (ts : List (List ℕ)) (bytes : List ℕ) (place : ℕ) → begins 112 t ≡ false → begins 109 t ≡ false → is_extension t ≡ true → list_any is_comma t ≡ false → Ending (k + 1 + length t) ts bytes place → Ending k (t ∷ ts) bytes place
-one_before k t ts bytes place no_proof reserved is lacks e = record {
+one_before : (k : ℕ) (t : List ℕ) (ts : List (List ℕ)) (bytes : List ℕ) (offset : ℕ) → begins 112 t ≡ false → begins 109 t ≡ false → is_extension t ≡ true → list_any is_comma t ≡ false → Ending (k + 1 + length t) ts bytes offset → Ending k (t ∷ ts) bytes offset
+one_before k t ts bytes offset no_proof reserved is lacks e = record {
   extensions = t ∷ e.extensions;
   proof = e.proof;
   is = ap (λ (xs : List (List ℕ)). t ∷ xs) e.is;
@@ -96,27 +96,27 @@ one_before k t ts bytes place no_proof reserved is lacks e = record {
   is_proof = e.is_proof;
 }
 
-ending_read : (end k : ℕ) (texts : List (List ℕ)) (bytes : List ℕ) (place : ℕ) → no_commas texts ≡ true → ending_of end (placed_from (k + 1) texts) ≡ Ok (bytes, place) → Ending k texts bytes place
-ending_read end k [] bytes place lack h = absurd cc
-ending_read end k (t ∷ ts) bytes place lack h =
+ending_read : (end k : ℕ) (texts : List (List ℕ)) (bytes : List ℕ) (offset : ℕ) → no_commas texts ≡ true → ending_of end (located_from (k + 1) texts) ≡ Ok (bytes, offset) → Ending k texts bytes offset
+ending_read end k [] bytes offset lack h = absurd cc
+ending_read end k (t ∷ ts) bytes offset lack h =
     let l = first_lacks t ts lack in
-    elim (chosen (begins 112 t) (proof_of (record { place = k + 1; text = t }) (placed_from (k + 1 + length t + 1) ts)) _ (Ok (bytes, place)) h) [
-      | inl here ↦ proof_read k t ts bytes place here.0 l.0 here.1
+    elim (chosen (begins 112 t) (proof_of (record { offset = k + 1; text = t }) (located_from (k + 1 + length t + 1) ts)) _ (Ok (bytes, offset)) h) [
+      | inl here ↦ proof_read k t ts bytes offset here.0 l.0 here.1
       | inr later ↦
-          let one = bind_ok (extension_of (record { place = k + 1; text = t })) _ (bytes, place) later.1 in
-          let e = extension_read (record { place = k + 1; text = t }) one.0 one.1 in
-          one_before k t ts bytes place later.0 e.0 e.1 l.0 (ending_read end (k + 1 + length t) ts bytes place l.1 one.2)
+          let one = bind_ok (extension_of (record { offset = k + 1; text = t })) _ (bytes, offset) later.1 in
+          let e = extension_read (record { offset = k + 1; text = t }) one.0 one.1 in
+          one_before k t ts bytes offset later.0 e.0 e.1 l.0 (ending_read end (k + 1 + length t) ts bytes offset l.1 one.2)
     ]
 
-ending_is : (end k : ℕ) (es : List (List ℕ)) (proof bytes : List ℕ) → AreExtensions es → list_all (λ e. not (begins 112 e)) es ≡ true → IsBase64Of proof bytes → ending_of end (placed_from (k + 1) (es ++ (112 ∷ 61 ∷ proof) ∷ [])) ≡ Ok (bytes, k + length (extensions_text es))
+ending_is : (end k : ℕ) (es : List (List ℕ)) (proof bytes : List ℕ) → AreExtensions es → list_all (λ e. not (begins 112 e)) es ≡ true → IsBase64Of proof bytes → ending_of end (located_from (k + 1) (es ++ (112 ∷ 61 ∷ proof) ∷ [])) ≡ Ok (bytes, k + length (extensions_text es))
 ending_is end k [] proof bytes are none is =
     cond-true (begins 112 (112 ∷ 61 ∷ proof)) _ _ (begins_is 112 proof)
-    ∙ bind_is (base64_at (record { place = k + 1 + 2; text = proof })) _ bytes (Ok (bytes, k + 0)) (base64_is (k + 1 + 2) proof bytes is) (ap (λ (n : ℕ). ok_pair bytes n) (omega arith))
+    ∙ bind_is (base64_at (record { offset = k + 1 + 2; text = proof })) _ bytes (Ok (bytes, k + 0)) (base64_is (k + 1 + 2) proof bytes is) (ap (λ (n : ℕ). ok_pair bytes n) (omega arith))
 ending_is end k (t ∷ es) proof bytes are none is =
     let f = first_extension t es are in
     let n = and_parts (not (begins 112 t)) _ none in
     cond-false (begins 112 t) _ _ (not_true (begins 112 t) n.0)
-    ∙ bind_is (extension_of (record { place = k + 1; text = t })) _ tt (Ok (bytes, k + length (extensions_text (t ∷ es)))) (extension_is (record { place = k + 1; text = t }) f.reserved f.is)
+    ∙ bind_is (extension_of (record { offset = k + 1; text = t })) _ tt (Ok (bytes, k + length (extensions_text (t ∷ es)))) (extension_is (record { offset = k + 1; text = t }) f.reserved f.is)
     (ending_is end (k + 1 + length t) es proof bytes f.more n.1 is ∙ ap (λ (n : ℕ). ok_pair bytes n) (let len = length-append t (extensions_text es) in omega (arith, len)))
 
 -- ---- the whole message
@@ -125,7 +125,7 @@ with_proof : (es : List (List ℕ)) (p : List ℕ) → extensions_text (es ++ p 
 with_proof [] p = ap (λ (xs : List ℕ). 44 ∷ xs) (append-nil p)
 with_proof (e ∷ es) p = ap (λ (xs : List ℕ). 44 ∷ e ++ xs) (with_proof es p) ∙ ap (λ (xs : List ℕ). 44 ∷ xs) (sym (append_assoc e (extensions_text es) (44 ∷ p)))
 
-abbrev of_fields : List ℕ → List Placed → Result ClientLast MsgFault
+abbrev of_fields : List ℕ → List Located → Result ClientLast MsgFault
 of_fields bytes fields = do
   first ← due (length bytes) fields
   binding ← binding_of first.0
@@ -144,28 +144,28 @@ record Binding (text bytes : List ℕ) : Type 0 where
   is : text ≡ 99 ∷ 61 ∷ value
   stands_for : IsBase64Of value bytes
 
-binding_read : (field : Placed) (bytes : List ℕ) → list_any is_comma field.text ≡ false → binding_of field ≡ Ok bytes → Binding field.text bytes
+binding_read : (field : Located) (bytes : List ℕ) → list_any is_comma field.text ≡ false → binding_of field ≡ Ok bytes → Binding field.text bytes
 binding_read field bytes lacks h =
     let v = bind_ok (value_of 99 field) base64_at bytes h in
     let is = (value_read 99 field v.0 v.1).1 in
     record { value = v.0.text; is = is; stands_for = base64_read v.0 bytes (sym (ap (list_any is_comma) is) ∙ lacks) v.2 }
 
-binding_is : (place : ℕ) (v bytes : List ℕ) → IsBase64Of v bytes → binding_of (record { place = place; text = 99 ∷ 61 ∷ v }) ≡ Ok bytes
-binding_is place v bytes is = bind_is _ _ _ (Ok bytes) (value_is 99 place v) (base64_is (place + 2) v bytes is)
+binding_is : (offset : ℕ) (v bytes : List ℕ) → IsBase64Of v bytes → binding_of (record { offset = offset; text = 99 ∷ 61 ∷ v }) ≡ Ok bytes
+binding_is offset v bytes is = bind_is _ _ _ (Ok bytes) (value_is 99 offset v) (base64_is (offset + 2) v bytes is)
 
-spelled : (bytes : List ℕ) (texts : List (List ℕ)) (m : ClientLast) → IsUtf8 bytes → no_commas texts ≡ true → bytes ≡ join_with_byte 44 texts → of_fields bytes (placed_from 0 texts) ≡ Ok m → IsClientLast bytes m
+spelled : (bytes : List ℕ) (texts : List (List ℕ)) (m : ClientLast) → IsUtf8 bytes → no_commas texts ≡ true → bytes ≡ join_with_byte 44 texts → of_fields bytes (located_from 0 texts) ≡ Ok m → IsClientLast bytes m
 spelled bytes [] m text lack cut h = absurd cc
-spelled bytes (t1 ∷ []) m text lack cut h = absurd (cc ((bind_ok (binding_of (record { place = 0; text = t1 })) _ m h).2))
+spelled bytes (t1 ∷ []) m text lack cut h = absurd (cc ((bind_ok (binding_of (record { offset = 0; text = t1 })) _ m h).2))
 spelled bytes (t1 ∷ t2 ∷ ts) m text lack cut h =
     let q = 0 + length t1 + 1 in
     let k = q + length t2 in
-    let a = bind_ok (binding_of (record { place = 0; text = t1 })) _ m h in
-    let b = bind_ok (nonce_of (record { place = q; text = t2 })) _ m a.2 in
-    let c = bind_ok (ending_of (length bytes) (placed_from (k + 1) ts)) _ m b.2 in
+    let a = bind_ok (binding_of (record { offset = 0; text = t1 })) _ m h in
+    let b = bind_ok (nonce_of (record { offset = q; text = t2 })) _ m a.2 in
+    let c = bind_ok (ending_of (length bytes) (located_from (k + 1) ts)) _ m b.2 in
     let l1 = first_lacks t1 (t2 ∷ ts) lack in
     let l2 = first_lacks t2 ts l1.1 in
-    let v = binding_read (record { place = 0; text = t1 }) a.0 l1.0 a.1 in
-    let n = nonce_read (record { place = q; text = t2 }) b.0 b.1 in
+    let v = binding_read (record { offset = 0; text = t1 }) a.0 l1.0 a.1 in
+    let n = nonce_read (record { offset = q; text = t2 }) b.0 b.1 in
     let e = ending_read (length bytes) k ts c.0.0 c.0.1 l2.1 c.1 in
     let x = extensions_text e.extensions in
     let y : List ℕ = 44 ∷ 112 ∷ 61 ∷ e.proof in
@@ -231,10 +231,10 @@ grammar_accepted bytes m g =
     let cut : slice_split (λ b. b == 44) bytes ≡ t1 ∷ t2 ∷ ts = ap (slice_split (λ b. b == 44)) is ∙ split_joined t1 (t2 ∷ ts) g.is_binding.no_comma lacks in
     let test : ltb (utf8_valid_len bytes) (length bytes) ≡ false = no_text_fault bytes g.is_text in
     cond-false (ltb (utf8_valid_len bytes) (length bytes)) _ (last_of bytes) test
-    ∙ (ap (λ (xs : List (List ℕ)). of_fields bytes (placed_from 0 xs)) cut
-    ∙ bind_is (binding_of (record { place = 0; text = t1 })) _ m.binding (Ok m) (binding_is 0 g.binding m.binding g.is_binding)
-    (bind_is (nonce_of (record { place = q; text = t2 })) _ m.nonce (Ok m) (nonce_is q m.nonce g.is_nonce)
-    (bind_is (ending_of (length bytes) (placed_from (k + 1) ts)) _ (m.proof, n) (Ok m) (ending_is (length bytes) k g.extensions g.proof m.proof g.are_extensions g.none_proof g.is_proof)
+    ∙ (ap (λ (xs : List (List ℕ)). of_fields bytes (located_from 0 xs)) cut
+    ∙ bind_is (binding_of (record { offset = 0; text = t1 })) _ m.binding (Ok m) (binding_is 0 g.binding m.binding g.is_binding)
+    (bind_is (nonce_of (record { offset = q; text = t2 })) _ m.nonce (Ok m) (nonce_is q m.nonce g.is_nonce)
+    (bind_is (ending_of (length bytes) (located_from (k + 1) ts)) _ (m.proof, n) (Ok m) (ending_is (length bytes) k g.extensions g.proof m.proof g.are_extensions g.none_proof g.is_proof)
     (same (take n bytes) m.without_proof front))))
   where
     same : (a b : List ℕ) → a ≡ b → ok_of (record { binding = m.binding; nonce = m.nonce; proof = m.proof; without_proof = a }) ≡ ok_of (record { binding = m.binding; nonce = m.nonce; proof = m.proof; without_proof = b })

@@ -1,6 +1,5 @@
 pub mod EscapeLemmas
 pub mod FieldLemmas
-pub mod Base64Lemmas
 pub mod TextLemmas
 pub mod GrammarLemmas
 pub mod FirstGrammar

@@ -9,7 +9,7 @@ use Rattle.ely_scram_msg.specs.declared.first.Flag.{Flag}
 use Rattle.ely_scram_msg.specs.declared.first.Flag.TheVariants.{N, Y}
 use Rattle.ely_scram_msg.specs.declared.first.ClientFirst.{ClientFirst}
 use Rattle.ely_scram_msg.specs.declared.first.FirstView.{FirstView}
-use Rattle.ely_scram_msg.specs.Placed.{Placed}
+use Rattle.ely_scram_msg.specs.Located.{Located}
 use Rattle.ely_scram_msg.specs.Fields.{fault, fields_of, due, value_of}
 use Rattle.ely_scram_msg.specs.Saslnames.{saslname_of}
 use Rattle.ely_scram_msg.specs.Nonces.{nonce_of}
@@ -24,13 +24,13 @@ flag_of bytes =
     else fault FlagKind 0))
 
 -- [authzid], where authzid is `a=` saslname (97 is `a`); nothing between the two commas is no name
-abbrev pub authzid_of : Placed → Result (Option (List ℕ)) MsgFault
+abbrev pub authzid_of : Located → Result (Option (List ℕ)) MsgFault
 authzid_of field =
     if length field.text == 0 then Ok None
     else (value_of 97 field >>= saslname_of >>= λ name. Ok (Some name))
 
 -- username: `n=` saslname (110 is `n`)
-abbrev pub username_of : Placed → Result (List ℕ) MsgFault
+abbrev pub username_of : Located → Result (List ℕ) MsgFault
 username_of field = value_of 110 field >>= saslname_of
 
 -- client-first-message, of bytes that are a text: gs2-cbind-flag "," [authzid] "," username "," nonce ["," extensions];
@@ -38,7 +38,7 @@ username_of field = value_of 110 field >>= saslname_of
 abbrev pub first_of : List ℕ → Result ClientFirst MsgFault
 first_of bytes = do
   flag ← flag_of bytes
-  before ← due (length bytes) (fields_of (record { place = 0; text = bytes }))
+  before ← due (length bytes) (fields_of (record { offset = 0; text = bytes }))
   second ← due (length bytes) before.1
   authzid ← authzid_of second.0
   third ← due (length bytes) second.1
@@ -51,8 +51,8 @@ first_of bytes = do
     authzid = authzid;
     name = name;
     nonce = nonce;
-    gs2 = take third.0.place bytes;
-    bare = drop third.0.place bytes;
+    gs2 = take third.0.offset bytes;
+    bare = drop third.0.offset bytes;
   })
 
 -- the message that the bytes stand for, or their first fault; that they are no text is found before all else

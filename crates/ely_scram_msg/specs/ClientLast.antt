@@ -6,24 +6,24 @@ use Rattle.ely_scram_msg.specs.declared.fault.MsgFault.{MsgFault}
 use Rattle.ely_scram_msg.specs.declared.fault.MsgKind.TheVariants.{Text, Trailing}
 use Rattle.ely_scram_msg.specs.declared.last.ClientLast.{ClientLast}
 use Rattle.ely_scram_msg.specs.declared.last.LastView.{LastView}
-use Rattle.ely_scram_msg.specs.Placed.{Placed}
+use Rattle.ely_scram_msg.specs.Located.{Located}
 use Rattle.ely_scram_msg.specs.Fields.{fault, fields_of, due, begins, rest_of_value, value_of}
 use Rattle.ely_scram_msg.specs.Nonces.{nonce_of}
 use Rattle.ely_scram_msg.specs.Extensions.{extension_of}
 use Rattle.ely_scram_msg.specs.Base64Texts.{base64_at}
 
 -- channel-binding: `c=` base64 (99 is `c`)
-abbrev pub binding_of : Placed → Result (List ℕ) MsgFault
+abbrev pub binding_of : Located → Result (List ℕ) MsgFault
 binding_of field = value_of 99 field >>= base64_at
 
--- proof: `p=` base64, here with the place of the comma before it;
+-- proof: `p=` base64, here with the offset of the comma before it;
 -- nothing may stand behind it, and its own fault is found first
-abbrev pub proof_of : Placed → List Placed → Result (List ℕ × ℕ) MsgFault
-proof_of field [] = base64_at (rest_of_value field) >>= λ proof. Ok (proof, field.place - 1)
-proof_of field (next ∷ rest) = base64_at (rest_of_value field) >>= λ proof. fault Trailing (next.place - 1)
+abbrev pub proof_of : Located → List Located → Result (List ℕ × ℕ) MsgFault
+proof_of field [] = base64_at (rest_of_value field) >>= λ proof. Ok (proof, field.offset - 1)
+proof_of field (next ∷ rest) = base64_at (rest_of_value field) >>= λ proof. fault Trailing (next.offset - 1)
 
 -- extensions up to the first `p=` (112 is `p`), which is the proof; end is the message's length
-abbrev pub ending_of : ℕ → List Placed → Result (List ℕ × ℕ) MsgFault
+abbrev pub ending_of : ℕ → List Located → Result (List ℕ × ℕ) MsgFault
 ending_of end [] = fault Trailing end
 ending_of end (field ∷ rest) =
     if begins 112 field.text then proof_of field rest
@@ -33,7 +33,7 @@ ending_of end (field ∷ rest) =
 -- client-final-message-without-proof ends before the proof's comma
 abbrev pub last_of : List ℕ → Result ClientLast MsgFault
 last_of bytes = do
-  first ← due (length bytes) (fields_of (record { place = 0; text = bytes }))
+  first ← due (length bytes) (fields_of (record { offset = 0; text = bytes }))
   binding ← binding_of first.0
   second ← due (length bytes) first.1
   nonce ← nonce_of second.0

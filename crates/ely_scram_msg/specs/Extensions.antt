@@ -4,7 +4,7 @@ use Rattle.std.specs.List.{list_any}
 use Rattle.ely_base.specs.Refused.{◌>>=◌}
 use Rattle.ely_scram_msg.specs.declared.fault.MsgFault.{MsgFault}
 use Rattle.ely_scram_msg.specs.declared.fault.MsgKind.TheVariants.{Mandatory, Trailing}
-use Rattle.ely_scram_msg.specs.Placed.{Placed}
+use Rattle.ely_scram_msg.specs.Located.{Located}
 use Rattle.ely_scram_msg.specs.Fields.{fault, begins}
 
 -- `A` to `Z` or `a` to `z`
@@ -18,13 +18,13 @@ is_extension text =
     && not (list_any (λ b. b == 0) (drop 2 text))
 
 -- the field is an extension: not the reserved `m=` (109 is `m`), and nothing else; the comma stands before the field
-abbrev pub extension_of : Placed → Result (Unit {0}) MsgFault
+abbrev pub extension_of : Located → Result (Unit {0}) MsgFault
 extension_of field =
-    if begins 109 field.text then fault Mandatory field.place
+    if begins 109 field.text then fault Mandatory field.offset
     else (if is_extension field.text then Ok tt
-    else fault Trailing (field.place - 1))
+    else fault Trailing (field.offset - 1))
 
 -- each field is an extension
-abbrev pub extensions_of : List Placed → Result (Unit {0}) MsgFault
+abbrev pub extensions_of : List Located → Result (Unit {0}) MsgFault
 extensions_of [] = Ok tt
 extensions_of (field ∷ rest) = extension_of field >>= λ _. extensions_of rest

@@ -1,4 +1,4 @@
-pub mod Placed
+pub mod Located
 pub mod Fields
 pub mod Saslnames
 pub mod Nonces

@@ -6,14 +6,14 @@ use Rattle.ely_base.specs.Names.{IsName, name_of}
 use Rattle.ely_base.specs.declared.name.NameFault.{NameFault}
 use Rattle.ely_scram_msg.specs.declared.fault.MsgFault.{MsgFault}
 use Rattle.ely_scram_msg.specs.declared.fault.MsgKind.TheVariants.{Escape, Name}
-use Rattle.ely_scram_msg.specs.Placed.{Placed}
+use Rattle.ely_scram_msg.specs.Located.{Located}
 use Rattle.ely_scram_msg.specs.Fields.{fault}
 
 -- what follows an `=` (61) begins `2C` or `3D`, these upper-case digits alone
 abbrev pub is_escape : List ℕ → Bool
 is_escape after = starts_with nat_eq after (codes "2C") || starts_with nat_eq after (codes "3D")
 
--- the place of the first `=` that is no escape
+-- the offset of the first `=` that is no escape
 abbrev pub bad_escape : List ℕ → Option ℕ
 bad_escape [] = None
 bad_escape (c ∷ after) = if c == 61 && not (is_escape after) then Some 0 else option_map (λ i. i + 1) (bad_escape after)
@@ -27,17 +27,17 @@ unescaped (c ∷ d ∷ e ∷ after) = if c == 61 then (if d == 50 then 44 else 6
 
 -- the name, or that the saslname that begins there stands for none
 abbrev pub or_no_name : ℕ → Result (List ℕ) NameFault → Result (List ℕ) MsgFault
-or_no_name place (Ok name) = Ok name
-or_no_name place (Err f) = fault Name place
+or_no_name offset (Ok name) = Ok name
+or_no_name offset (Err f) = fault Name offset
 
 -- the name that a saslname stands for, where the first `=` that is no escape is known;
 -- it is found before all that is wrong with the name
-abbrev pub without_escape_fault : Placed → Option ℕ → Result (List ℕ) MsgFault
-without_escape_fault part None = or_no_name part.place (name_of (unescaped part.text))
-without_escape_fault part (Some i) = fault Escape (part.place + i)
+abbrev pub without_escape_fault : Located → Option ℕ → Result (List ℕ) MsgFault
+without_escape_fault part None = or_no_name part.offset (name_of (unescaped part.text))
+without_escape_fault part (Some i) = fault Escape (part.offset + i)
 
 -- the name that a saslname stands for
-abbrev pub saslname_of : Placed → Result (List ℕ) MsgFault
+abbrev pub saslname_of : Located → Result (List ℕ) MsgFault
 saslname_of part = without_escape_fault part (bad_escape part.text)
 
 -- a saslname: each `=` begins an escape, and the bytes that it stands for are a name

@@ -2,13 +2,12 @@
 //! when it is wanted.
 
 ghost use Rattle.std.specs.Prelude.{◌≡◌, ◌+◌, ◌<◌, ◌==◌, ◌&&◌, not, ◌∷◌, None, length, drop, slice_index, is_none, IfOk, IfSome};
-ghost use Rattle.std.specs.List.{list_any};
-ghost use Rattle.ely_base.specs.Names.{is_barred, name_fault};
+ghost use Rattle.ely_base.specs.Names.{name_fault};
 ghost use Rattle.ely_scram_msg.specs.Saslnames.{bad_escape, is_escape, saslname_of, unescaped};
 
 use crate::fault::{MsgFault, MsgKind};
 use crate::field::Field;
-use ely_base::{Name, NoMemory};
+use ely_base::{Name, NoMemory, has_barred};
 use std::alloc::Global;
 use std::marker::Model;
 
@@ -44,7 +43,7 @@ fn is_bad(bytes: &[u8], i: usize) -> bool
     bytes[i] == b'=' && !is_escape(bytes.split_at(i + 1).1)
 }
 
-/// The place of the first `=` that is no escape.
+/// The offset of the first `=` that is no escape.
 fn bad_escape(bytes: &[u8]) -> Option<usize>
     ensures value { result ≡ bad_escape bytes.now }
     ensures within { IfSome result (λ i. i < length bytes.now) }
@@ -55,13 +54,6 @@ fn bad_escape(bytes: &[u8]) -> Option<usize>
         }
     }
     None
-}
-
-/// Whether there is a NUL or an LF.
-fn has_barred(bytes: &[u8]) -> bool
-    ensures { result ≡ list_any is_barred bytes.now }
-{
-    bytes.iter().any(|b| *b == 0 || *b == 10)
 }
 
 /// The first byte that the text stands for, and what follows it.
@@ -111,12 +103,12 @@ impl<'a> Escaped<'a> {
     {
         let text = part.text();
         match bad_escape(text.as_bytes()) {
-            Some(i) => Err(MsgFault::at(MsgKind::Escape, part.place() + i)),
+            Some(i) => Err(MsgFault::at(MsgKind::Escape, part.offset() + i)),
             None => {
                 if is_name(text) {
                     Ok(Escaped { text })
                 } else {
-                    Err(MsgFault::at(MsgKind::Name, part.place()))
+                    Err(MsgFault::at(MsgKind::Name, part.offset()))
                 }
             }
         }

@@ -33,21 +33,21 @@ fn is_extension(text: &str) -> bool
 
 /// Passes an extension, which is due in that field.
 pub(crate) fn pass_extension(field: &Field<'_>) -> Result<(), MsgFault>
-    requires { 0 < field.now.place }
+    requires { 0 < field.now.offset }
     ensures { Reads (λ _. tt) result (extension_of field.now) }
 {
     if begins(field.text(), b'm') {
-        return Err(MsgFault::at(MsgKind::Mandatory, field.place()));
+        return Err(MsgFault::at(MsgKind::Mandatory, field.offset()));
     }
     if !is_extension(field.text()) {
-        return Err(MsgFault::at(MsgKind::Trailing, field.place() - 1));
+        return Err(MsgFault::at(MsgKind::Trailing, field.offset() - 1));
     }
     Ok(())
 }
 
 /// Passes extensions up to the end of the message.
 pub(crate) fn pass_extensions(rest: Option<Field<'_>>) -> Result<(), MsgFault>
-    requires { IfSome rest (λ part. 0 < part.place) }
+    requires { IfSome rest (λ part. 0 < part.offset) }
     ensures { Reads (λ _. tt) result (extensions_of (fields_left rest.entry)) }
 {
     let mut rest = rest;

@@ -5,8 +5,8 @@ ghost use Rattle.std.specs.Prelude.{◌≡◌};
 /// What is wrong with a message. The faults are looked for from left to right, and the first one counts.
 #[derive(Clone, Copy, Debug, PartialEq, Eq)]
 pub enum MsgKind {
-    /// The message is no UTF-8 (RFC 3629). This is tested before all else, and the place is the length of the longest
-    /// front that is.
+    /// The message is no UTF-8 (RFC 3629). This is tested before all else, and the offset is the length of the longest
+    /// prefix that is.
     Text,
     /// A client-first message begins with no gs2-cbind-flag (RFC 5802 section 7).
     Flag,
@@ -28,7 +28,7 @@ pub enum MsgKind {
     Trailing,
 }
 
-/// The first fault of a message, and its place: how many bytes stand before it.
+/// The first fault of a message, and its offset: how many bytes stand before it.
 #[derive(Clone, Copy, Debug, PartialEq, Eq)]
 pub struct MsgFault {
     /// What is wrong.
@@ -38,10 +38,13 @@ pub struct MsgFault {
 }
 
 impl MsgFault {
-    /// A fault of that kind at that place.
-    pub(crate) fn at(kind: MsgKind, place: usize) -> MsgFault
-        ensures { result ≡ record { kind = kind; place = place } }
+    /// A fault of that kind at that offset.
+    pub(crate) fn at(kind: MsgKind, offset: usize) -> MsgFault
+        ensures { result ≡ record { kind = kind; place = offset } }
     {
-        MsgFault { kind, place }
+        MsgFault {
+            kind,
+            place: offset,
+        }
     }
 }

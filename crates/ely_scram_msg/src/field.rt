@@ -1,4 +1,4 @@
-//! The fields of a message, cut at its commas (RFC 5802 section 5.1), each with its place there. It knows no attribute's
+//! The fields of a message, cut at its commas (RFC 5802 section 5.1), each with its offset there. It knows no attribute's
 //! meaning.
 
 ghost use Rattle.std.specs.Prelude.{◌≡◌, ◌+◌, ◌^◌, ◌<◌, ◌≤◌, ◌∷◌, length, IfOk, IfSome, IsTrue};
@@ -9,38 +9,38 @@ ghost use Rattle.ely_base.specs.Refused.{Reads};
 use crate::fault::{MsgFault, MsgKind};
 use std::marker::Model;
 
-/// A part of a message, and its place there.
+/// A part of a message, and its offset there.
 #[derive(Drop)]
 pub struct Field<'a> {
-    place: usize,
+    offset: usize,
     text: &'a str,
 }
 
 impl<'a> Model for Field<'a> {
     ghost use Rattle.std.specs.Prelude.{◌+◌, ◌^◌, ◌<◌, length};
-    ghost use Rattle.ely_scram_msg.specs.Placed.{Placed};
+    ghost use Rattle.ely_scram_msg.specs.Located.{Located};
 
-    ghost Value = { Placed };
+    ghost Value = { Located };
 
-    ghost view = { λ f. record { place = f.place; text = f.text.now } };
+    ghost view = { λ f. record { offset = f.offset; text = f.text.now } };
 
-    ghost invariant = { λ f. f.place + length f.text.now < 2 ^ 64 };
+    ghost invariant = { λ f. f.offset + length f.text.now < 2 ^ 64 };
 }
 
 impl<'a> Field<'a> {
     /// The whole message.
     pub fn whole(text: &'a str) -> Field<'a>
-        ensures { result ≡ record { place = 0; text = text.now } }
+        ensures { result ≡ record { offset = 0; text = text.now } }
     {
-        Field { place: 0, text }
+        Field { offset: 0, text }
     }
 
     /// How many bytes of the message stand before this.
-    pub fn place(&self) -> usize
-        ensures value { result ≡ self.now.place }
-        ensures fits { self.now.place + length self.now.text < 2 ^ 64 }
+    pub fn offset(&self) -> usize
+        ensures value { result ≡ self.now.offset }
+        ensures fits { self.now.offset + length self.now.text < 2 ^ 64 }
     {
-        self.place
+        self.offset
     }
 
     /// The text of this part.
@@ -53,18 +53,19 @@ impl<'a> Field<'a> {
     /// The field at the front, and what stands behind its comma.
     pub fn cut(self) -> (Field<'a>, Option<Field<'a>>)
         ensures fields { fields_of self.entry ≡ result.0 ∷ fields_left result.1 }
-        ensures front { result.0.place ≡ self.entry.place }
-        ensures behind { IfSome result.1 (λ rest. 0 < rest.place) }
-        ensures within { IfSome result.1 (λ rest. rest.place + length rest.text ≤ self.entry.place + length self.entry.text) }
+        ensures front { result.0.offset ≡ self.entry.offset }
+        ensures behind { IfSome result.1 (λ rest. 0 < rest.offset) }
+        ensures within { IfSome result.1 (λ rest.
+            rest.offset + length rest.text ≤ self.entry.offset + length self.entry.text) }
     {
         match self.text.split_once(',') {
             Some((before, after)) => (
                 Field {
-                    place: self.place,
+                    offset: self.offset,
                     text: before,
                 },
                 Some(Field {
-                    place: self.place + before.len() + 1,
+                    offset: self.offset + before.len() + 1,
                     text: after,
                 }),
             ),
@@ -79,7 +80,7 @@ impl<'a> Field<'a> {
     {
         let (_, text) = self.text.split_at(2);
         Field {
-            place: self.place + 2,
+            offset: self.offset + 2,
             text,
         }
     }
@@ -92,9 +93,9 @@ impl<'a> Field<'a> {
             return Ok(self.behind_letter());
         }
         if begins(self.text, b'm') {
-            return Err(MsgFault::at(MsgKind::Mandatory, self.place));
+            return Err(MsgFault::at(MsgKind::Mandatory, self.offset));
         }
-        Err(MsgFault::at(MsgKind::Attr, self.place))
+        Err(MsgFault::at(MsgKind::Attr, self.offset))
     }
 }
 
@@ -112,11 +113,11 @@ pub fn due<'a>(
     end: usize,
     rest: Option<Field<'a>>,
 ) -> Result<(Field<'a>, Option<Field<'a>>), MsgFault>
-    requires { IfSome rest (λ part. part.place + length part.text ≤ end) }
+    requires { IfSome rest (λ part. part.offset + length part.text ≤ end) }
     ensures read { Reads (λ x. (x.0, fields_left x.1)) result (due end (fields_left rest.entry)) }
-    ensures behind { IfOk result (λ x. IfSome x.1 (λ part. 0 < part.place)) }
-    ensures front { IfOk result (λ x. x.0.place ≤ end) }
-    ensures within { IfOk result (λ x. IfSome x.1 (λ part. part.place + length part.text ≤ end)) }
+    ensures behind { IfOk result (λ x. IfSome x.1 (λ part. 0 < part.offset)) }
+    ensures front { IfOk result (λ x. x.0.offset ≤ end) }
+    ensures within { IfOk result (λ x. IfSome x.1 (λ part. part.offset + length part.text ≤ end)) }
 {
     match rest {
         None => Err(MsgFault::at(MsgKind::Attr, end)),

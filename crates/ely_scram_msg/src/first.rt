@@ -81,13 +81,9 @@ impl ClientFirst {
     pub fn copy(&self, alloc: Global) -> Result<ClientFirst, NoMemory>
         ensures { IfOk result (λ copy. copy ≡ self.now) }
     {
-        let authzid = match &self.authzid {
-            None => None,
-            Some(name) => Some(name.copy(alloc)?),
-        };
         Ok(ClientFirst {
             flag: self.flag,
-            authzid,
+            authzid: Name::copy_option(alloc, &self.authzid)?,
             name: self.name.copy(alloc)?,
             nonce: self.nonce.copy(alloc)?,
             gs2: self.gs2.copy(alloc)?,
@@ -143,7 +139,7 @@ fn read_first<'a>(bytes: &'a [u8], text: &'a str) -> Result<FirstView<'a>, MsgFa
     let (field, rest) = due(end, rest)?;
     let authzid = read_authzid(field)?;
     let (field, rest) = due(end, rest)?;
-    let start = field.place();
+    let start = field.offset();
     let name = read_username(field)?;
     let (field, rest) = due(end, rest)?;
     let nonce = read_nonce(field)?;

@@ -77,30 +77,30 @@ fn read_binding<'a>(field: Field<'a>) -> Result<Coded64<'a>, MsgFault>
     Coded64::read(&value)
 }
 
-/// The proof of a field that begins `p=`, and the place of the comma before it. Nothing may stand behind it.
+/// The proof of a field that begins `p=`, and the offset of the comma before it. Nothing may stand behind it.
 fn read_proof<'a>(
     field: Field<'a>,
     behind: Option<Field<'a>>,
 ) -> Result<(Coded64<'a>, usize), MsgFault>
     requires letter { IsCharBoundary field.text 2 }
-    requires place { 0 < field.place }
-    requires behind { IfSome behind (λ part. 0 < part.place) }
+    requires offset { 0 < field.offset }
+    requires behind { IfSome behind (λ part. 0 < part.offset) }
     ensures read { result ≡ proof_of field.entry (fields_left behind.entry) }
-    ensures within { IfOk result (λ x. x.1 ≤ field.entry.place) }
+    ensures within { IfOk result (λ x. x.1 ≤ field.entry.offset) }
 {
-    let comma = field.place() - 1;
+    let comma = field.offset() - 1;
     let value = field.behind_letter();
     let proof = Coded64::read(&value)?;
     match behind {
         None => Ok((proof, comma)),
-        Some(part) => Err(MsgFault::at(MsgKind::Trailing, part.cut().0.place() - 1)),
+        Some(part) => Err(MsgFault::at(MsgKind::Trailing, part.cut().0.offset() - 1)),
     }
 }
 
-/// Passes extensions up to the proof, and gives it with the place of the comma before it.
+/// Passes extensions up to the proof, and gives it with the offset of the comma before it.
 fn read_ending<'a>(end: usize, rest: Option<Field<'a>>) -> Result<(Coded64<'a>, usize), MsgFault>
-    requires behind { IfSome rest (λ part. 0 < part.place) }
-    requires within { IfSome rest (λ part. part.place + length part.text ≤ end) }
+    requires behind { IfSome rest (λ part. 0 < part.offset) }
+    requires within { IfSome rest (λ part. part.offset + length part.text ≤ end) }
     ensures read { result ≡ ending_of end (fields_left rest.entry) }
     ensures within { IfOk result (λ x. x.1 ≤ end) }
 {

@@ -14,7 +14,7 @@ fn is_printable(b: u8) -> bool
     0x21 <= b && b <= 0x7E && b != b','
 }
 
-/// The place of the first byte that may not stand in a nonce.
+/// The offset of the first byte that may not stand in a nonce.
 fn first_unprintable(bytes: &[u8]) -> Option<usize>
     ensures value { result ≡ position (λ b. not (is_printable b)) bytes.now }
     ensures within { IfSome result (λ i. i < length bytes.now) }
@@ -28,11 +28,11 @@ fn read_printable<'a>(part: &Field<'a>) -> Result<&'a [u8], MsgFault>
 {
     let bytes = part.text().as_bytes();
     if bytes.len() == 0 {
-        return Err(MsgFault::at(MsgKind::Nonce, part.place()));
+        return Err(MsgFault::at(MsgKind::Nonce, part.offset()));
     }
     match first_unprintable(bytes) {
         None => Ok(bytes),
-        Some(i) => Err(MsgFault::at(MsgKind::Nonce, part.place() + i)),
+        Some(i) => Err(MsgFault::at(MsgKind::Nonce, part.offset() + i)),
     }
 }
 

@@ -3,7 +3,7 @@
 ghost use Rattle.std.specs.Prelude.{◌≡◌, IfOk};
 ghost use Rattle.ely_scram_msg.specs.ServerTexts.{error_code, server_first_text, verifier_text};
 
-use ely_base::{Bytes, NoMemory, write_base64};
+use ely_base::{Bytes, NoMemory, push_base64, push_number};
 use ely_hash::Tag;
 use std::alloc::Global;
 
@@ -31,9 +31,9 @@ pub fn write_server_first(
     text.extend_from_slice(b"r=")?;
     text.extend_from_slice(nonce)?;
     text.extend_from_slice(b",s=")?;
-    text.extend_from_slice(write_base64(alloc, salt)?.bytes())?;
+    push_base64(&mut text, salt)?;
     text.extend_from_slice(b",i=")?;
-    text.extend_from_slice(format!(in alloc; "{turns}")?.as_bytes())?;
+    push_number(&mut text, u64::from(turns))?;
     Ok(Bytes::of(text))
 }
 
@@ -43,7 +43,7 @@ pub fn write_verifier(alloc: Global, verifier: &Tag) -> Result<Bytes, NoMemory>
 {
     let mut text = Vec::new(alloc);
     text.extend_from_slice(b"v=")?;
-    text.extend_from_slice(write_base64(alloc, verifier.bytes())?.bytes())?;
+    push_base64(&mut text, verifier.bytes())?;
     Ok(Bytes::of(text))
 }
 

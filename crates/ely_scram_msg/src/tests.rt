@@ -2,69 +2,25 @@
 //! none, as the grammar's tables give them.
 
 use crate::{
-    ClientFirst, ClientLast, Coded64, Escaped, Flag, MsgFault, MsgKind, ServerError, error_text,
-    read_client_first, read_client_last, scan_client_first, scan_client_last, write_server_first,
-    write_verifier,
+    ClientFirst, ClientLast, Flag, MsgFault, MsgKind, ServerError, error_text, read_client_first,
+    read_client_last, scan_client_first, scan_client_last, write_server_first, write_verifier,
 };
-use ely_base::NoMemory;
+use ely_base::{NoMemory, cut_at, push_number};
 use ely_hash::Tag;
 use std::alloc::Global;
 use std::test::Fail;
 
-/// The client-final message of RFC 5802 section 5.
-const FINAL: &[u8] =
-    b"c=biws,r=fyko+d2lbbFgONRv9qkxdawL3rfcNHYJY1ZVvWVs7j,p=v0X8v3Bz2T0CJGbJQyF0X+HI4Ts=";
-
-/// The proof in it.
+/// The proof of RFC 5802 section 5.
 const SHA1_PROOF: [u8; 20] = [
     0xBF, 0x45, 0xFC, 0xBF, 0x70, 0x73, 0xD9, 0x3D, 0x02, 0x24, 0x66, 0xC9, 0x43, 0x21, 0x74, 0x5F,
     0xE1, 0xC8, 0xE1, 0x3B,
 ];
 
-fn at(kind: MsgKind, place: usize) -> Option<MsgFault> {
-    Some(MsgFault { kind, place })
-}
-
-fn first_fault(bytes: &[u8]) -> Option<MsgFault> {
-    scan_client_first(bytes).err()
-}
-
-fn last_fault(bytes: &[u8]) -> Option<MsgFault> {
-    scan_client_last(bytes).err()
-}
-
-/// The fault of the client-final message of RFC 5802 cut to that length.
-fn cut_fault(length: usize) -> Option<MsgFault> {
-    last_fault(&FINAL[..length.min(FINAL.len())])
-}
-
-fn names(alloc: Global, name: &Escaped<'_>, bytes: &[u8]) -> Result<bool, NoMemory> {
-    let copy = name.copy(alloc)?;
-    Ok(copy.bytes() == bytes)
-}
-
-fn stands_for(alloc: Global, text: &Coded64<'_>, bytes: &[u8]) -> Result<bool, NoMemory> {
-    let copy = text.copy(alloc)?;
-    Ok(copy.bytes() == bytes)
-}
-
-/// Whether the message is one of the user `user` without channel binding and authorization name.
-fn is_first(first: &ClientFirst, nonce: &[u8], bare: &[u8]) -> bool {
-    first.flag == Flag::N
-        && first.authzid.is_none()
-        && first.name.bytes() == b"user".as_slice()
-        && first.nonce.bytes() == nonce
-        && first.gs2.bytes() == b"n,,".as_slice()
-        && first.bare.bytes() == bare
-}
-
-/// Whether the message is one without channel binding and authorization name.
-fn is_last(last: &ClientLast, nonce: &[u8], proof: &[u8], without_proof: &[u8]) -> bool {
-    last.binding.bytes() == b"n,,".as_slice()
-        && last.nonce.bytes() == nonce
-        && last.proof.bytes() == proof
-        && last.without_proof.bytes() == without_proof
-}
+/// The proof of RFC 7677 section 3.
+const SHA256_PROOF: [u8; 32] = [
+    0x74, 0x7C, 0xDB, 0x65, 0xAA, 0x56, 0x22, 0x4E, 0x23, 0x52, 0x13, 0x7E, 0x52, 0xD7, 0xBD, 0xCA,
+    0xD6, 0xA0, 0xF7, 0x38, 0xDF, 0x30, 0x78, 0x2C, 0xAA, 0x69, 0xA2, 0xCF, 0xB0, 0x27, 0x75, 0x54,
+];
 
 fn crosses<T: Send + Sync>() {}
 
@@ -74,185 +30,168 @@ fn messages_may_cross_threads() {
     crosses::<ClientLast>();
 }
 
-#[test]
-fn malformed_first_messages(rt: HostRuntime) {
-    for (text, kind, place) in [
-        (b"".as_slice(), MsgKind::Flag, 0),
-        (b"n".as_slice(), MsgKind::Flag, 0),
-        (b"n,".as_slice(), MsgKind::Attr, 2),
-        (b"n,,".as_slice(), MsgKind::Attr, 3),
-        (b"n,a=x".as_slice(), MsgKind::Attr, 5),
-        (b"n,,r=abc,n=user".as_slice(), MsgKind::Attr, 3),
-        (b"n,,n=user,x=y,r=abc".as_slice(), MsgKind::Attr, 10),
-        (b"n,,n=,r=abc".as_slice(), MsgKind::Name, 5),
-        (b"n,,n=a\n,r=abc".as_slice(), MsgKind::Name, 5),
-        (b"n,,n=a=,r=b".as_slice(), MsgKind::Escape, 6),
-        (b"n,,n=a=2cb,r=abc".as_slice(), MsgKind::Escape, 6),
-        (b"n,,n=a,r=".as_slice(), MsgKind::Nonce, 9),
-        (b"n,,n=a,r=b c".as_slice(), MsgKind::Nonce, 10),
-        (b"n,,n=\xFF".as_slice(), MsgKind::Text, 5),
-        (b"p=tls-unique,,n=user,r=abc".as_slice(), MsgKind::Bound, 0),
-    ] {
-        assert_eq!(rt; first_fault(text), at(kind, place), "{place}");
+/// Texts, and behind each the first fault as a client-first message.
+const FIRST_FAULTS: &[u8] = b"\
+    \nflag 0\n\
+    n\nflag 0\n\
+    n,\nattr 2\n\
+    n,,\nattr 3\n\
+    n,a=x\nattr 5\n\
+    n,,r=abc,n=user\nattr 3\n\
+    n,,n=user,x=y,r=abc\nattr 10\n\
+    n,,n=,r=abc\nname 5\n\
+    n,,n=a=,r=b\nescape 6\n\
+    n,,n=a=2cb,r=abc\nescape 6\n\
+    n,,n=a,r=\nnonce 9\n\
+    n,,n=a,r=b c\nnonce 10\n\
+    n,,n=\xFF\ntext 5\n\
+    p=tls-unique,,n=user,r=abc\nbound 0\n\
+    n,m=x,n=user,r=abc\nmandatory 2\n\
+    n,,m=x,n=user,r=abc\nmandatory 3\n\
+    n,,n=a,m=x\nmandatory 7\n\
+    n,,n=a,r=b,m=x\nmandatory 11\n\
+    n,,n=a,r=b,m\ntrailing 10\n\
+    n,,n=a,r=b,\ntrailing 10\n\
+    n,,n=a,r=b,x=\ntrailing 10\n\
+    n,,n=a,r=b,1=x\ntrailing 10\n\
+    n,,n=a,r=b,x=y,z=\0\ntrailing 14\n\
+    y,,n=user,r=abc\nread\n\
+    n,,n=a,r=b,p=x\nread\n\
+    n,,n=a,r=b,x=y,z=\xC3\xA9=\nread\n\
+";
+
+/// Texts, and behind each the first fault as a client-final message.
+const LAST_FAULTS: &[u8] = b"\
+    c\nattr 0\n\
+    c=biws\nattr 6\n\
+    c=biws,r=\nnonce 9\n\
+    c=biws,r=abc\ntrailing 12\n\
+    c=biws,r=abc,p\ntrailing 12\n\
+    c=biws,r=abc,p=AA==,x=y\ntrailing 19\n\
+    c=bi,r=abc,p=AA==\nbase64 2\n\
+    c=,r=abc,p=AA==\nbase64 2\n\
+    c=biws,r=abc,p=\nbase64 15\n\
+    c=biws,r=abc,p=A,x=y\nbase64 15\n\
+    r=abc,c=biws,p=AA==\nattr 0\n\
+    c=biws,x=y,r=abc,p=AA==\nattr 7\n\
+    c=biws,m=y,r=abc,p=AA==\nmandatory 7\n\
+    c=biws,r=abc,m=y,p=AA==\nmandatory 13\n\
+    c=biws,r=abc,p=AA==\xFF\ntext 19\n\
+    c=biws,r=abc,x=y,p=AA==\nread\n\
+    c=biws,r=abc,p=AA==\nread\n\
+";
+
+/// The word of a kind of faults.
+fn word(kind: MsgKind) -> &'static str {
+    match kind {
+        MsgKind::Text => "text ",
+        MsgKind::Flag => "flag ",
+        MsgKind::Bound => "bound ",
+        MsgKind::Mandatory => "mandatory ",
+        MsgKind::Attr => "attr ",
+        MsgKind::Escape => "escape ",
+        MsgKind::Name => "name ",
+        MsgKind::Nonce => "nonce ",
+        MsgKind::Base64 => "base64 ",
+        MsgKind::Trailing => "trailing ",
     }
 }
 
-#[test]
-fn extensions_of_first_messages(rt: HostRuntime) {
-    for (text, kind, place) in [
-        (b"n,m=x,n=user,r=abc".as_slice(), MsgKind::Mandatory, 2),
-        (b"n,,m=x,n=user,r=abc".as_slice(), MsgKind::Mandatory, 3),
-        (b"n,,n=a,m=x".as_slice(), MsgKind::Mandatory, 7),
-        (b"n,,n=a,r=b,m=x".as_slice(), MsgKind::Mandatory, 11),
-        (b"n,,n=a,r=b,m".as_slice(), MsgKind::Trailing, 10),
-        (b"n,,n=a,r=b,".as_slice(), MsgKind::Trailing, 10),
-        (b"n,,n=a,r=b,x=".as_slice(), MsgKind::Trailing, 10),
-        (b"n,,n=a,r=b,1=x".as_slice(), MsgKind::Trailing, 10),
-        (b"n,,n=a,r=b,x=y,z=\0".as_slice(), MsgKind::Trailing, 14),
-    ] {
-        assert_eq!(rt; first_fault(text), at(kind, place), "{place}");
-    }
-    for text in [
-        b"y,,n=user,r=abc".as_slice(),
-        b"n,,n=a,r=b,p=x".as_slice(),
-        b"n,,n=a,r=b,x=y,z=\xC3\xA9=".as_slice(),
-    ] {
-        assert_eq!(rt; first_fault(text), None);
-    }
+/// A fault in words, or that there is none.
+fn told(alloc: Global, fault: Option<MsgFault>) -> Result<Vec<u8>, NoMemory> {
+    let Some(fault) = fault else {
+        return Ok(Vec::from_slice(alloc, b"read")?);
+    };
+    let mut text = Vec::from_slice(alloc, word(fault.kind).as_bytes())?;
+    push_number(&mut text, fault.place as u64)?;
+    Ok(text)
 }
 
-#[test]
-fn malformed_last_messages(rt: HostRuntime) {
-    for (text, kind, place) in [
-        (b"c=biws,r=abc".as_slice(), MsgKind::Trailing, 12),
-        (b"c=biws,r=abc,p".as_slice(), MsgKind::Trailing, 12),
-        (b"c=biws,r=abc,p=AA==,x=y".as_slice(), MsgKind::Trailing, 19),
-        (b"c=bi,r=abc,p=AA==".as_slice(), MsgKind::Base64, 2),
-        (b"c=,r=abc,p=AA==".as_slice(), MsgKind::Base64, 2),
-        (b"c=biws,r=abc,p=".as_slice(), MsgKind::Base64, 15),
-        (b"c=biws,r=abc,p=A,x=y".as_slice(), MsgKind::Base64, 15),
-        (b"r=abc,c=biws,p=AA==".as_slice(), MsgKind::Attr, 0),
-        (b"c=biws,x=y,r=abc,p=AA==".as_slice(), MsgKind::Attr, 7),
-        (b"c=biws,m=y,r=abc,p=AA==".as_slice(), MsgKind::Mandatory, 7),
-        (
-            b"c=biws,r=abc,m=y,p=AA==".as_slice(),
-            MsgKind::Mandatory,
-            13,
-        ),
-        (b"c=biws,r=abc,p=AA==\xFF".as_slice(), MsgKind::Text, 19),
-    ] {
-        assert_eq!(rt; last_fault(text), at(kind, place), "{place}");
-    }
-    assert_eq!(rt; last_fault(b"c=biws,r=abc,x=y,p=AA=="), None);
-}
-
-#[test]
-fn cut_last_messages(rt: HostRuntime) {
-    for (from, to, kind, place) in [
-        (0, 2, MsgKind::Attr, 0),
-        (2, 6, MsgKind::Base64, 2),
-        (6, 7, MsgKind::Attr, 6),
-        (7, 9, MsgKind::Attr, 7),
-        (9, 10, MsgKind::Nonce, 9),
-        (52, 54, MsgKind::Trailing, 51),
-        (54, 58, MsgKind::Base64, 54),
-        (59, 62, MsgKind::Base64, 54),
-        (63, 66, MsgKind::Base64, 54),
-        (67, 70, MsgKind::Base64, 54),
-        (71, 74, MsgKind::Base64, 54),
-        (75, 78, MsgKind::Base64, 54),
-        (79, 82, MsgKind::Base64, 54),
-    ] {
-        for length in from..to {
-            assert_eq!(rt; cut_fault(length), at(kind, place), "{length}");
+/// Whether each text of a table has the fault that stands behind it.
+fn tells(alloc: Global, table: &[u8], rows: u32, last: bool) -> Result<bool, NoMemory> {
+    let mut rest = table;
+    for _ in 0..rows {
+        let (text, behind) = cut_at(rest, b'\n');
+        let (wanted, behind) = cut_at(behind.unwrap_or(b""), b'\n');
+        let fault = if last {
+            scan_client_last(text).err()
+        } else {
+            scan_client_first(text).err()
+        };
+        if told(alloc, fault)?.as_slice() != wanted {
+            return Ok(false);
         }
+        rest = behind.unwrap_or(b"");
     }
+    Ok(rest.is_empty())
 }
 
 #[test]
-fn cut_last_messages_without_a_proof(rt: HostRuntime) {
-    for length in 10..52 {
-        assert_eq!(rt; cut_fault(length), at(MsgKind::Trailing, length));
-    }
-    for length in [58, 62, 66, 70, 74, 78, 82] {
-        assert_eq!(rt; cut_fault(length), None, "{length}");
-    }
-}
-
-#[test]
-fn a_view_lends_the_gs2_header_and_the_bare_message(rt: HostRuntime) -> Result<(), Fail> {
-    let view = scan_client_first(b"n,a=x=2Cy,n=user,r=abc")?;
-    assert_eq!(rt; view.gs2, b"n,a=x=2Cy,".as_slice());
-    assert_eq!(rt; view.bare, b"n=user,r=abc".as_slice());
-    let authzid = view.authzid.ok_or("no authorization name")?;
-    assert!(rt; names(rt.alloc(), &authzid, b"x,y")?);
+fn messages_are_told_by_their_first_fault(rt: HostRuntime) -> Result<(), Fail> {
+    assert!(rt; tells(rt.alloc(), FIRST_FAULTS, 26, false)?);
+    assert!(rt; tells(rt.alloc(), LAST_FAULTS, 17, true)?);
     Ok(())
 }
 
 #[test]
-fn a_name_is_unescaped(rt: HostRuntime) -> Result<(), Fail> {
-    let view = scan_client_first(b"n,,n=a=2Cb=3Dc,r=abc")?;
-    assert!(rt; view.flag == Flag::N && view.authzid.is_none());
-    assert!(rt; names(rt.alloc(), &view.name, b"a,b=c")?);
-    Ok(())
-}
-
-#[test]
-fn a_view_lends_the_message_without_proof(rt: HostRuntime) -> Result<(), Fail> {
-    let view = scan_client_last(FINAL)?;
-    assert!(rt; stands_for(rt.alloc(), &view.binding, b"n,,")?);
-    assert!(rt; stands_for(rt.alloc(), &view.proof, &SHA1_PROOF)?);
-    assert_eq!(rt; view.without_proof, &FINAL[..51]);
-    Ok(())
-}
-
-#[test]
-fn the_first_message_of_rfc_5802(rt: HostRuntime) -> Result<(), Fail> {
-    let nonce = b"fyko+d2lbbFgONRv9qkxdawL";
-    let bare = b"n=user,r=fyko+d2lbbFgONRv9qkxdawL";
-    let first = read_client_first(rt.alloc(), b"n,,n=user,r=fyko+d2lbbFgONRv9qkxdawL")?;
-    assert!(rt; is_first(&first, nonce, bare));
-    let copy = first.copy(rt.alloc())?;
-    assert!(rt; is_first(&copy, nonce, bare));
-    Ok(())
-}
-
-#[test]
-fn the_first_message_of_rfc_7677(rt: HostRuntime) -> Result<(), Fail> {
-    let first = read_client_first(rt.alloc(), b"n,,n=user,r=rOprNGfwEbeRWgbNEkqO")?;
-    assert!(rt;
-        is_first(
-            &first,
-            b"rOprNGfwEbeRWgbNEkqO",
-            b"n=user,r=rOprNGfwEbeRWgbNEkqO"
-        )
-    );
-    Ok(())
-}
-
-#[test]
-fn the_last_message_of_rfc_5802(rt: HostRuntime) -> Result<(), Fail> {
-    let nonce = b"fyko+d2lbbFgONRv9qkxdawL3rfcNHYJY1ZVvWVs7j";
-    let last = read_client_last(rt.alloc(), FINAL)?;
-    assert!(rt; is_last(&last, nonce, &SHA1_PROOF, &FINAL[..51]));
-    let copy = last.copy(rt.alloc())?;
-    assert!(rt; is_last(&copy, nonce, &SHA1_PROOF, &FINAL[..51]));
-    Ok(())
-}
-
-#[test]
-fn the_last_message_of_rfc_7677(rt: HostRuntime) -> Result<(), Fail> {
-    let text =
-        b"c=biws,r=rOprNGfwEbeRWgbNEkqO%hvYDpWUa2RaTCAfuxFIlj)hNlF$k0,p=dHzbZapWIk4jUhN+Ute9ytag9zjfMHgsqmmiz7AndVQ=";
-    let nonce = b"rOprNGfwEbeRWgbNEkqO%hvYDpWUa2RaTCAfuxFIlj)hNlF$k0";
-    let proof = [
-        0x74, 0x7C, 0xDB, 0x65, 0xAA, 0x56, 0x22, 0x4E, 0x23, 0x52, 0x13, 0x7E, 0x52, 0xD7, 0xBD,
-        0xCA, 0xD6, 0xA0, 0xF7, 0x38, 0xDF, 0x30, 0x78, 0x2C, 0xAA, 0x69, 0xA2, 0xCF, 0xB0, 0x27,
-        0x75, 0x54,
+fn first_messages_are_read_to_their_parts(rt: HostRuntime) -> Result<(), Fail> {
+    // RFC 5802 section 5, RFC 7677 section 3, and one with escapes
+    let rows: [(&[u8], &[u8], &[u8]); 3] = [
+        (b"n,,", b"user", b"fyko+d2lbbFgONRv9qkxdawL"),
+        (b"n,,", b"user", b"rOprNGfwEbeRWgbNEkqO"),
+        (b"n,a=x=2Cy,", b"a=2Cb=3Dc", b"abc"),
     ];
-    let without_proof = b"c=biws,r=rOprNGfwEbeRWgbNEkqO%hvYDpWUa2RaTCAfuxFIlj)hNlF$k0";
-    let last = read_client_last(rt.alloc(), text)?;
-    assert!(rt; is_last(&last, nonce, &proof, without_proof));
+    for (gs2, name, nonce) in rows {
+        let mut bare = Vec::from_slice(rt.alloc(), b"n=")?;
+        bare.extend_from_slice(name)?;
+        bare.extend_from_slice(b",r=")?;
+        bare.extend_from_slice(nonce)?;
+        let mut text = Vec::from_slice(rt.alloc(), gs2)?;
+        text.extend_from_slice(bare.as_slice())?;
+        let first = read_client_first(rt.alloc(), text.as_slice())?.copy(rt.alloc())?;
+        let plain = name == b"user".as_slice();
+        assert!(rt; first.flag == Flag::N && first.authzid.is_none() == plain);
+        assert!(rt;
+            first
+                .authzid
+                .is_none_or(|name| name.bytes() == b"x,y".as_slice())
+        );
+        let wanted: &[u8] = if plain { b"user" } else { b"a,b=c" };
+        assert_eq!(rt; first.name.bytes(), wanted);
+        assert_eq!(rt; first.nonce.bytes(), nonce);
+        assert_eq!(rt; first.gs2.bytes(), gs2);
+        assert_eq!(rt; first.bare.bytes(), bare.as_slice());
+    }
+    Ok(())
+}
+
+#[test]
+fn last_messages_are_read_to_their_parts(rt: HostRuntime) -> Result<(), Fail> {
+    // RFC 5802 section 5 and RFC 7677 section 3
+    let rows: [(&[u8], &[u8], &[u8]); 2] = [
+        (
+            b"fyko+d2lbbFgONRv9qkxdawL3rfcNHYJY1ZVvWVs7j",
+            b"v0X8v3Bz2T0CJGbJQyF0X+HI4Ts=",
+            &SHA1_PROOF,
+        ),
+        (
+            b"rOprNGfwEbeRWgbNEkqO%hvYDpWUa2RaTCAfuxFIlj)hNlF$k0",
+            b"dHzbZapWIk4jUhN+Ute9ytag9zjfMHgsqmmiz7AndVQ=",
+            &SHA256_PROOF,
+        ),
+    ];
+    for (nonce, proof, bytes) in rows {
+        let mut without_proof = Vec::from_slice(rt.alloc(), b"c=biws,r=")?;
+        without_proof.extend_from_slice(nonce)?;
+        let mut text = Vec::from_slice(rt.alloc(), without_proof.as_slice())?;
+        text.extend_from_slice(b",p=")?;
+        text.extend_from_slice(proof)?;
+        let last = read_client_last(rt.alloc(), text.as_slice())?.copy(rt.alloc())?;
+        assert_eq!(rt; last.binding.bytes(), b"n,,".as_slice());
+        assert_eq!(rt; last.nonce.bytes(), nonce);
+        assert_eq!(rt; last.proof.bytes(), bytes);
+        assert_eq!(rt; last.without_proof.bytes(), without_proof.as_slice());
+    }
     Ok(())
 }
 
@@ -274,15 +213,6 @@ fn the_server_messages_of_rfc_5802(rt: HostRuntime) -> Result<(), Fail> {
     .ok_or("no tag")?;
     let text = write_verifier(rt.alloc(), &signature)?;
     assert_eq!(rt; text.bytes(), b"v=rmF9pqV8S7suAoZWja4dJRkFsKQ=".as_slice());
-    Ok(())
-}
-
-#[test]
-fn the_words_of_server_errors(rt: HostRuntime) {
-    assert_eq!(rt; error_text(ServerError::InvalidProof), "invalid-proof");
-    assert_eq!(rt;
-        error_text(ServerError::BindingsDontMatch),
-        "channel-bindings-dont-match"
-    );
     assert_eq!(rt; error_text(ServerError::OtherError), "other-error");
+    Ok(())
 }

@@ -1,3 +1,10 @@
 pub mod Words
+pub mod Outcomes
+pub mod Arguments
+pub mod EditLines
+pub mod LoginLines
+pub mod Verbs
+pub mod Lines
+pub mod FaultTexts
+pub mod OutcomeTexts
 pub mod Text
-pub mod Reading

@@ -1,72 +1,85 @@
--- The states of a login told apart, and which outcomes are no refusal.
-use Rattle.std.specs.Prelude.{ℕ, Bool, true, false, nat_eq}
+-- The words of steps, states, cache answers and mechanisms.
+use Rattle.std.specs.Prelude.{ℕ, Bool, nat_eq, List, [], codes}
+use Rattle.ely_row.specs.declared.mech.Mech.{Mech}
+use Rattle.ely_row.specs.declared.mech.Mech.TheVariants as mechs
+use Rattle.ely_script.specs.declared.word.CacheWord.{CacheWord}
+use Rattle.ely_script.specs.declared.word.CacheWord.TheVariants as caches
 use Rattle.ely_script.specs.declared.word.StateWord.{StateWord}
 use Rattle.ely_script.specs.declared.word.StateWord.TheVariants as states
 use Rattle.ely_script.specs.declared.word.StepWord.{StepWord}
-use Rattle.ely_script.specs.declared.word.StepWord.TheVariants as words
-use Rattle.ely_script.specs.declared.word.CacheWord.{CacheWord}
-use Rattle.ely_script.specs.declared.word.CacheWord.TheVariants as caches
-use Rattle.ely_script.specs.declared.outcome.Outcome.{Outcome}
-use Rattle.ely_script.specs.declared.outcome.Outcome.TheVariants as outcomes
+use Rattle.ely_script.specs.declared.word.StepWord.TheVariants as steps
 
--- each state's number, to tell states apart
-abbrev pub state_number : StateWord → ℕ
-state_number states.Absent = 0
-state_number states.Fresh = 1
-state_number states.Loading = 2
-state_number states.Named = 3
-state_number states.Checking = 4
-state_number states.Proved = 5
-state_number states.Authorized = 6
-state_number states.Complete = 7
-state_number states.Failed = 8
+-- the word of a step: its verb, or which half of a naming or a check it is
+abbrev pub step_text : StepWord → List ℕ
+step_text steps.BadLine = codes "bad-line"
+step_text steps.Add = codes "add"
+step_text steps.Remove = codes "remove"
+step_text steps.SetCred = codes "set-cred"
+step_text steps.DropCred = codes "drop-cred"
+step_text steps.SetAttr = codes "set-attr"
+step_text steps.DropAttr = codes "drop-attr"
+step_text steps.Reload = codes "reload"
+step_text steps.Begin = codes "open"
+step_text steps.Name1 = codes "name1"
+step_text steps.Name2 = codes "name2"
+step_text steps.Check1 = codes "check1"
+step_text steps.Check2 = codes "check2"
+step_text steps.Authorize = codes "authorize"
+step_text steps.Allows = codes "allows"
+step_text steps.Succeed = codes "succeed"
+step_text steps.Fail = codes "fail"
+step_text steps.Close = codes "close"
 
--- both are the same state
-abbrev pub same_state : StateWord → StateWord → Bool
-same_state v w = nat_eq (state_number v) (state_number w)
+-- the word of a login's state
+abbrev pub state_text : StateWord → List ℕ
+state_text states.Absent = codes "absent"
+state_text states.Fresh = codes "fresh"
+state_text states.Loading = codes "loading"
+state_text states.Named = codes "named"
+state_text states.Checking = codes "checking"
+state_text states.Proved = codes "proved"
+state_text states.Authorized = codes "authorized"
+state_text states.Complete = codes "complete"
+state_text states.Failed = codes "failed"
 
--- the outcome is no refusal
-abbrev pub is_accepted : Outcome → Bool
-is_accepted (outcomes.Changed version) = true
-is_accepted (outcomes.Opened serial challenge) = true
-is_accepted (outcomes.Pinned version) = true
-is_accepted outcomes.Named = true
-is_accepted (outcomes.Challenge text) = true
-is_accepted outcomes.Fine = true
-is_accepted (outcomes.Proved verifier) = true
-is_accepted outcomes.Authorized = true
-is_accepted outcomes.Yes = true
-is_accepted outcomes.No = true
-is_accepted (outcomes.Established version place roles) = true
-is_accepted _ = false
+-- the cache word with the space before it
+abbrev pub cache_text : CacheWord → List ℕ
+cache_text caches.None = []
+cache_text caches.Dash = codes " -"
+cache_text caches.Hit = codes " hit"
+cache_text caches.Miss = codes " miss"
+cache_text caches.Kept = codes " kept"
+cache_text caches.Late = codes " late"
+cache_text caches.Unkept = codes " unkept"
 
--- the cache word where no realm caches
-abbrev pub cache_word : Outcome → CacheWord
-cache_word (outcomes.Pinned version) = caches.Dash
-cache_word outcomes.Named = caches.Dash
-cache_word (outcomes.Challenge text) = caches.Dash
-cache_word _ = caches.None
+-- the word of a mechanism
+abbrev pub mech_text : Mech → List ℕ
+mech_text mechs.Plain = codes "PLAIN"
+mech_text mechs.ScramSha1 = codes "SCRAM-SHA-1"
+mech_text mechs.ScramSha256 = codes "SCRAM-SHA-256"
+mech_text mechs.Digest = codes "DIGEST"
+mech_text mechs.DigestSha256 = codes "DIGEST-SHA-256"
 
 -- each step's number, to tell steps apart
 abbrev pub word_number : StepWord → ℕ
-word_number words.BadLine = 0
-word_number words.Add = 1
-word_number words.Remove = 2
-word_number words.SetCred = 3
-word_number words.DropCred = 4
-word_number words.SetAttr = 5
-word_number words.DropAttr = 6
-word_number words.Reload = 7
-word_number words.Begin = 8
-word_number words.Name1 = 9
-word_number words.Name2 = 10
-word_number words.Check1 = 11
-word_number words.Check2 = 12
-word_number words.Authorize = 13
-word_number words.Allows = 14
-word_number words.Succeed = 15
-word_number words.Fail = 16
-word_number words.Close = 17
+word_number steps.BadLine = 0
+word_number steps.Add = 1
+word_number steps.Remove = 2
+word_number steps.SetCred = 3
+word_number steps.DropCred = 4
+word_number steps.SetAttr = 5
+word_number steps.DropAttr = 6
+word_number steps.Reload = 7
+word_number steps.Begin = 8
+word_number steps.Name1 = 9
+word_number steps.Name2 = 10
+word_number steps.Check1 = 11
+word_number steps.Check2 = 12
+word_number steps.Authorize = 13
+word_number steps.Allows = 14
+word_number steps.Succeed = 15
+word_number steps.Fail = 16
+word_number steps.Close = 17
 
 -- both are the same step
 abbrev pub same_word : StepWord → StepWord → Bool

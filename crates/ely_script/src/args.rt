@@ -4,10 +4,10 @@ ghost use Rattle.std.specs.Prelude.{◌≡◌, ◌-◌, ◌^◌, ◌≤◌, IsTr
 ghost use Rattle.std.specs.Option.{option_map};
 ghost use Rattle.ely_base.specs.Refused.{Gives};
 ghost use Rattle.ely_row.specs.Attributes.{is_values};
-ghost use Rattle.ely_script.specs.Reading.{first_of, last_of, none_of, one_of, two_of, three_of, five_of, some_of, number_at, ctx_at, coded_at, name_at, names_at};
+ghost use Rattle.ely_script.specs.Arguments.{first_of, last_of, none_of, one_of, two_of, three_of, five_of, some_of, number_at, ctx_at, coded_at, name_at, names_at, place_at};
 
 use crate::outcome::BadLine;
-use ely_base::{Bytes, CtxId, Name, Refused, count_of, cut_at, read_number, read_word};
+use ely_base::{Bytes, CtxId, Name, Refused, count_of, cut_at, or_fault, read_number, read_word};
 use ely_row::Values;
 use std::alloc::Global;
 use std::marker::Model;
@@ -153,13 +153,13 @@ impl<'a> Args<'a> {
         ensures { Gives result (names_at 6 self.entry) }
     {
         let mut names = Vec::new(alloc);
-        let mut place = 6;
+        let mut number = 6;
         let mut left = self.rest;
         while let Some(bytes) = left {
             let (word, behind) = cut_at(bytes, b' ');
-            let name = Word { bytes: word }.name(alloc, place)?;
+            let name = Word { bytes: word }.name(alloc, number)?;
             names.push(name)?;
-            place += 1;
+            number += 1;
             left = behind;
         }
         match Values::read(names) {
@@ -170,45 +170,46 @@ impl<'a> Args<'a> {
 }
 
 impl Word<'_> {
-    /// The number up to `max` that the word at this place is.
-    pub(crate) fn number(&self, max: u64, place: u32) -> Result<u64, BadLine>
-        ensures value { result ≡ number_at max place self.now }
+    /// The number up to `max` that the word of this number is.
+    pub(crate) fn number(&self, max: u64, number: u32) -> Result<u64, BadLine>
+        ensures value { result ≡ number_at max number self.now }
         ensures within { IfOk result (λ n. n ≤ max) }
     {
-        match read_number(self.bytes, max) {
-            Some(number) => Ok(number),
-            None => Err(BadLine::Number(place)),
-        }
+        read_number(self.bytes, max).ok_or(BadLine::Number(number))
     }
 
-    /// The login that the word at this place names.
-    pub(crate) fn ctx(&self, place: u32) -> Result<CtxId, BadLine>
-        ensures { result ≡ ctx_at place self.now }
+    /// The login that the word of this number names.
+    pub(crate) fn ctx(&self, number: u32) -> Result<CtxId, BadLine>
+        ensures { result ≡ ctx_at number self.now }
     {
-        let number = self.number(u64::from(u32::MAX), place)?;
-        Ok(CtxId(number as u32))
+        let id = self.number(u64::from(u32::MAX), number)?;
+        Ok(CtxId(id as u32))
     }
 
-    /// The bytes that the coded word at this place stands for.
-    pub(crate) fn coded(&self, alloc: Global, place: u32) -> Result<Bytes, Refused<BadLine>>
-        ensures { Gives result (coded_at place self.now) }
+    /// The bytes that the coded word of this number stands for.
+    pub(crate) fn coded(&self, alloc: Global, number: u32) -> Result<Bytes, Refused<BadLine>>
+        ensures { Gives result (coded_at number self.now) }
     {
-        match read_word(alloc, self.bytes) {
-            Ok(bytes) => Ok(bytes),
-            Err(Refused::NoMemory) => Err(Refused::NoMemory),
-            Err(Refused::Fault(_)) => Err(Refused::Fault(BadLine::Word(place))),
-        }
+        or_fault(read_word(alloc, self.bytes), BadLine::Word(number))
     }
 
-    /// The name that the coded word at this place stands for.
-    pub(crate) fn name(&self, alloc: Global, place: u32) -> Result<Name, Refused<BadLine>>
-        ensures { Gives result (name_at place self.now) }
+    /// The name that the coded word of this number stands for.
+    pub(crate) fn name(&self, alloc: Global, number: u32) -> Result<Name, Refused<BadLine>>
+        ensures { Gives result (name_at number self.now) }
     {
-        let bytes = self.coded(alloc, place)?;
-        match Name::read(alloc, bytes.bytes()) {
-            Ok(name) => Ok(name),
-            Err(Refused::NoMemory) => Err(Refused::NoMemory),
-            Err(Refused::Fault(_)) => Err(Refused::Fault(BadLine::Word(place))),
-        }
+        or_fault(Name::read_word(alloc, self.bytes), BadLine::Word(number))
     }
+}
+
+/// A place: the realm and the name of an identity, the third and the fourth word.
+pub(crate) fn read_place(
+    alloc: Global,
+    realm: Word,
+    name: Word,
+) -> Result<(Name, Name), Refused<BadLine>>
+    ensures { Gives result (place_at realm.entry name.entry) }
+{
+    let realm = realm.name(alloc, 3)?;
+    let name = name.name(alloc, 4)?;
+    Ok((realm, name))
 }

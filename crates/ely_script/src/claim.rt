@@ -1,6 +1,9 @@
 //! What a login says of itself, and what it shows for that.
 
-use ely_base::{Bytes, Name};
+ghost use Rattle.std.specs.Prelude.{◌≡◌, IfOk};
+
+use ely_base::{Bytes, Name, NoMemory};
+use std::alloc::Global;
 
 /// Who a login says that it is.
 #[derive(Debug, Drop)]
@@ -14,4 +17,31 @@ pub enum Claim {
 pub enum Evidence {
     /// By PLAIN: the password.
     Plain { password: Bytes },
+}
+
+impl Claim {
+    /// An equal claim.
+    pub fn copy(&self, alloc: Global) -> Result<Claim, NoMemory>
+        ensures { IfOk result (λ copy. copy ≡ self.now) }
+    {
+        match self {
+            Claim::Plain { authzid, name } => Ok(Claim::Plain {
+                authzid: Name::copy_option(alloc, authzid)?,
+                name: name.copy(alloc)?,
+            }),
+        }
+    }
+}
+
+impl Evidence {
+    /// Equal evidence.
+    pub fn copy(&self, alloc: Global) -> Result<Evidence, NoMemory>
+        ensures { IfOk result (λ copy. copy ≡ self.now) }
+    {
+        match self {
+            Evidence::Plain { password } => Ok(Evidence::Plain {
+                password: password.copy(alloc)?,
+            }),
+        }
+    }
 }

@@ -3,7 +3,7 @@
 ghost use Rattle.std.specs.Prelude.{◌≡◌, IfOk};
 
 use crate::outcome::BadLine;
-use ely_base::{Bytes, CtxId, Name, NoMemory};
+use ely_base::{Bytes, CtxId, NoMemory};
 use ely_plain::PlainMsg;
 use ely_row::{Edit, Mech};
 use std::alloc::Global;
@@ -11,30 +11,38 @@ use std::alloc::Global;
 /// What a line asks for.
 #[derive(Debug, Drop)]
 pub enum Verb {
+    /// An edit of an identity.
     Change {
         edit: Edit,
     },
+    /// Opens a login, with the nonce of its server, where it is given.
     Begin {
         ctx: CtxId,
         mech: Mech,
         nonce: Option<Bytes>,
     },
+    /// A message of PLAIN.
     Plain {
         ctx: CtxId,
         message: PlainMsg,
     },
+    /// Asks whether the identity may log in.
     Authorize {
         ctx: CtxId,
     },
+    /// Establishes the identity.
     Succeed {
         ctx: CtxId,
     },
+    /// Gives the login up.
     Fail {
         ctx: CtxId,
     },
+    /// Closes the login.
     Close {
         ctx: CtxId,
     },
+    /// Asks whether a permission is granted.
     Allows {
         ctx: CtxId,
         wanted: Bytes,
@@ -46,37 +54,6 @@ pub enum Verb {
 pub struct Command {
     pub actor: u32,
     pub verb: Verb,
-}
-
-/// Equal bytes, where there are some.
-fn copy_nonce(alloc: Global, nonce: &Option<Bytes>) -> Result<Option<Bytes>, NoMemory>
-    ensures { IfOk result (λ copy. copy ≡ nonce.now) }
-{
-    match nonce {
-        None => Ok(None),
-        Some(bytes) => Ok(Some(bytes.copy(alloc)?)),
-    }
-}
-
-/// An equal name, where there is one.
-fn copy_name(alloc: Global, name: &Option<Name>) -> Result<Option<Name>, NoMemory>
-    ensures { IfOk result (λ copy. copy ≡ name.now) }
-{
-    match name {
-        None => Ok(None),
-        Some(name) => Ok(Some(name.copy(alloc)?)),
-    }
-}
-
-/// An equal message.
-fn copy_plain(alloc: Global, message: &PlainMsg) -> Result<PlainMsg, NoMemory>
-    ensures { IfOk result (λ copy. copy ≡ message.now) }
-{
-    Ok(PlainMsg {
-        authzid: copy_name(alloc, &message.authzid)?,
-        name: message.name.copy(alloc)?,
-        password: message.password.copy(alloc)?,
-    })
 }
 
 impl Verb {
@@ -91,11 +68,11 @@ impl Verb {
             Verb::Begin { ctx, mech, nonce } => Ok(Verb::Begin {
                 ctx: *ctx,
                 mech: *mech,
-                nonce: copy_nonce(alloc, nonce)?,
+                nonce: Bytes::copy_option(alloc, nonce)?,
             }),
             Verb::Plain { ctx, message } => Ok(Verb::Plain {
                 ctx: *ctx,
-                message: copy_plain(alloc, message)?,
+                message: message.copy(alloc)?,
             }),
             Verb::Authorize { ctx } => Ok(Verb::Authorize { ctx: *ctx }),
             Verb::Succeed { ctx } => Ok(Verb::Succeed { ctx: *ctx }),

@@ -1,10 +1,11 @@
 //! What the steps of a script answer.
 
 ghost use Rattle.std.specs.Prelude.{◌≡◌};
-ghost use Rattle.ely_script.specs.Words.{is_accepted, cache_word};
+ghost use Rattle.ely_script.specs.Outcomes.{is_accepted};
 
-use crate::word::{CacheWord, StateWord};
+use crate::word::StateWord;
 use ely_base::{Bytes, Items, Name, Serial, Version};
+use ely_hash::Tag;
 use ely_plain::PlainFault;
 use ely_row::{CredFault, EditFault, Mech, PipeFault, Place};
 
@@ -47,8 +48,11 @@ pub enum Outcome {
         serial: Serial,
         challenge: Option<Bytes>,
     },
+    /// A login of that number is open.
     InUse,
+    /// As many logins as may be are open.
     ContextsFull,
+    /// The nonce was issued before.
     NonceUsed,
     /// The identity is pinned at this version.
     Pinned(Version),
@@ -56,32 +60,49 @@ pub enum Outcome {
     State(StateWord),
     /// The login has this mechanism, and the step is one of another.
     Mechanism(Mech),
+    /// The authorization name is another than the name.
     Authzid,
+    /// A stage gave no place for the name.
     Pipe(PipeFault),
+    /// There is no such identity.
     Unknown,
+    /// No credential of the identity serves the mechanism.
     NoCredential,
+    /// The identity is named.
     Named,
     /// The identity is named, and this is the server's first message.
     Challenge(Bytes),
+    /// The login that the line began with is gone.
     Gone,
     /// The step is made.
     Fine,
+    /// The nonce was not issued, or is forgotten.
     Stale,
     /// The count was spent; this is the last one.
     Replayed(u32),
     /// The evidence holds, with the server's verifier where the mechanism has one.
-    Proved(Option<Bytes>),
+    Proved(Option<Tag>),
+    /// The channel binding isn't the one of the first message.
     Binding,
+    /// The nonce isn't the whole one.
     Nonce,
+    /// The proof doesn't fit.
     Proof,
+    /// The password is wrong.
     Password,
+    /// The realm isn't the one of the credential.
     Realm,
+    /// The target isn't the one of the request.
     Uri,
+    /// The response is wrong.
     Response,
+    /// The identity may log in.
     Authorized,
     /// The identity has no permission to log in at this version.
     Denied(Version),
+    /// The permission is granted.
     Yes,
+    /// The permission is not granted.
     No,
     /// The identity of the login, as of this version.
     Established {
@@ -110,15 +131,5 @@ impl Outcome {
                 | Outcome::No
                 | Outcome::Established { .. }
         )
-    }
-
-    /// The cache word where no realm caches.
-    pub fn cache_word(&self) -> CacheWord
-        ensures { result ≡ cache_word self.now }
-    {
-        match self {
-            Outcome::Pinned(_) | Outcome::Named | Outcome::Challenge(_) => CacheWord::Dash,
-            _ => CacheWord::None,
-        }
     }
 }

@@ -1,8 +1,7 @@
 //! The words of steps, states and cache answers, as they are printed.
 
 ghost use Rattle.std.specs.Prelude.{◌≡◌};
-ghost use Rattle.ely_script.specs.Words.{state_number, same_state};
-ghost use Rattle.ely_script.specs.Text.{step_text, state_text, cache_text, mech_text};
+ghost use Rattle.ely_script.specs.Words.{step_text, state_text, cache_text, mech_text};
 
 use ely_row::Mech;
 
@@ -84,29 +83,6 @@ impl StepWord {
 }
 
 impl StateWord {
-    fn number(self) -> u8
-        ensures { result ≡ state_number self }
-    {
-        match self {
-            StateWord::Absent => 0,
-            StateWord::Fresh => 1,
-            StateWord::Loading => 2,
-            StateWord::Named => 3,
-            StateWord::Checking => 4,
-            StateWord::Proved => 5,
-            StateWord::Authorized => 6,
-            StateWord::Complete => 7,
-            StateWord::Failed => 8,
-        }
-    }
-
-    /// Whether both are the same state.
-    pub fn is(self, other: StateWord) -> bool
-        ensures { result ≡ same_state self other }
-    {
-        self.number() == other.number()
-    }
-
     /// The word as it is printed.
     pub fn text(self) -> &'static [u8]
         ensures { result.now ≡ state_text self }

@@ -1,71 +1,58 @@
-//! Writing texts piece by piece.
+//! Writing texts piece by piece behind what is there. Where memory runs out, a prefix of the text may be written.
 
-ghost use Rattle.std.specs.Prelude.{◌≡◌, ◌++◌, OnOk};
+ghost use Rattle.std.specs.Prelude.{◌≡◌, ◌++◌, OnOk, OnErr};
 ghost use Rattle.std.specs.Fmt.{decimal};
-ghost use Rattle.base64.specs.GeneralPurpose.{encode_of};
-ghost use Rattle.base64.specs.Engines.{standard};
+ghost use Rattle.ely_base.specs.Appended.{Extends};
+ghost use Rattle.ely_base.specs.Texts.{base64_text};
 ghost use Rattle.ely_base.specs.Words.{word_text};
 
-use ely_base::{NoMemory, write_base64, write_word};
-use std::alloc::Global;
+use ely_base::{NoMemory, push_base64, push_number, push_word};
 
 pub(crate) fn push_text(out: &mut Vec<u8>, text: &[u8]) -> Result<(), NoMemory>
-    ensures { OnOk result (out.new.items ≡ out.old.items ++ text.now) }
+    ensures ok { OnOk result (out.new.items ≡ out.old.items ++ text.now) }
+    ensures err { OnErr result (Extends out.old.items out.new.items) }
 {
     out.extend_from_slice(text)?;
     Ok(())
 }
 
-pub(crate) fn push_number(alloc: Global, out: &mut Vec<u8>, number: u64) -> Result<(), NoMemory>
-    ensures { OnOk result (out.new.items ≡ out.old.items ++ decimal number) }
+/// Writes a text and a number behind it.
+pub(crate) fn push_counted(out: &mut Vec<u8>, text: &[u8], number: u64) -> Result<(), NoMemory>
+    ensures ok { OnOk result (out.new.items ≡ out.old.items ++ (text.now ++ decimal number)) }
+    ensures err { OnErr result (Extends out.old.items out.new.items) }
 {
-    let text = number.to_string(alloc)?;
-    push_text(out, text.as_bytes())
-}
-
-/// Writes a word and a number behind it.
-pub(crate) fn push_counted(
-    alloc: Global,
-    out: &mut Vec<u8>,
-    word: &[u8],
-    number: u64,
-) -> Result<(), NoMemory>
-    ensures { OnOk result (out.new.items ≡ out.old.items ++ (word.now ++ decimal number)) }
-{
-    push_text(out, word)?;
-    push_number(alloc, out, number)
+    push_text(out, text)?;
+    push_number(out, number)?;
+    Ok(())
 }
 
 /// Writes a text and another behind it.
 pub(crate) fn push_both(out: &mut Vec<u8>, first: &[u8], second: &[u8]) -> Result<(), NoMemory>
-    ensures { OnOk result (out.new.items ≡ out.old.items ++ (first.now ++ second.now)) }
+    ensures ok { OnOk result (out.new.items ≡ out.old.items ++ (first.now ++ second.now)) }
+    ensures err { OnErr result (Extends out.old.items out.new.items) }
 {
     push_text(out, first)?;
-    push_text(out, second)
+    push_text(out, second)?;
+    Ok(())
 }
 
 /// Writes a text and the coded word of bytes behind it.
-pub(crate) fn push_worded(
-    alloc: Global,
-    out: &mut Vec<u8>,
-    text: &[u8],
-    bytes: &[u8],
-) -> Result<(), NoMemory>
-    ensures { OnOk result (out.new.items ≡ out.old.items ++ (text.now ++ word_text bytes.now)) }
+pub(crate) fn push_worded(out: &mut Vec<u8>, text: &[u8], bytes: &[u8]) -> Result<(), NoMemory>
+    ensures ok { OnOk result (out.new.items ≡ out.old.items ++ (text.now ++ word_text bytes.now)) }
+    ensures err { OnErr result (Extends out.old.items out.new.items) }
 {
-    let word = write_word(alloc, bytes)?;
-    push_both(out, text, word.bytes())
+    push_text(out, text)?;
+    push_word(out, bytes)?;
+    Ok(())
 }
 
 /// Writes a text and the base64 text of bytes behind it.
-pub(crate) fn push_coded(
-    alloc: Global,
-    out: &mut Vec<u8>,
-    text: &[u8],
-    bytes: &[u8],
-) -> Result<(), NoMemory>
-    ensures { OnOk result (out.new.items ≡ out.old.items ++ (text.now ++ encode_of standard bytes.now)) }
+pub(crate) fn push_coded(out: &mut Vec<u8>, text: &[u8], bytes: &[u8]) -> Result<(), NoMemory>
+    ensures ok { OnOk result
+        (out.new.items ≡ out.old.items ++ (text.now ++ base64_text bytes.now)) }
+    ensures err { OnErr result (Extends out.old.items out.new.items) }
 {
-    let coded = write_base64(alloc, bytes)?;
-    push_both(out, text, coded.bytes())
+    push_text(out, text)?;
+    push_base64(out, bytes)?;
+    Ok(())
 }

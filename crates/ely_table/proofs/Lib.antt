@@ -1,4 +1,5 @@
-pub mod Places
+pub mod TableWrites
+pub mod NameCounts
 pub mod Steps
 pub mod Records
 pub mod Touches

@@ -6,55 +6,50 @@ use Rattle.std.specs.BTreeMap.{is_at}
 use Rattle.std.specs.Str.{bytes_eq}
 use Rattle.std.proofs.lemmas.Bool.{leb-false}
 use Rattle.std.proofs.lemmas.List.{length_push}
-use Rattle.std.proofs.lemmas.List.Sums.{fold_push}
 use Rattle.ely_row.specs.declared.edit.Edit.{Edit}
 use Rattle.ely_row.specs.declared.edit.EditFault.{EditFault}
 use Rattle.ely_row.specs.declared.edit.EditFault.TheVariants.{JournalFull}
-use Rattle.ely_row.specs.Rows.{Identity, name_cmp, is_place, realm_of, name_of, row, row_after, row_fault}
+use Rattle.ely_row.specs.Rows.{Row, name_cmp}
+use Rattle.ely_row.specs.Edits.{Texts, is_of, realm_of, name_of, row, row_after, row_fault}
+use Rattle.ely_row.proofs.AfterEdits.{row-push}
 use Rattle.ely_table.specs.declared.class.RealmClass.{RealmClass}
 use Rattle.ely_table.specs.declared.class.RealmClass.TheVariants.{Modifiable, Composite}
 use Rattle.ely_table.specs.declared.table.Table.{Table}
 use Rattle.ely_table.specs.Entries.{entry_in, entry_row, entry_last, rows_in, table_fault, kept_fault}
-use Rattle.ely_table.specs.Faults.{class_of, class_fault, count_after, row_count, fault, are_apart, IsAccepted}
-use Rattle.ely_table.specs.Kept.{realms_of, table_of, count_of, last_from, last_touch, AreEmpty, AreKept, IsStep, IsSame, IsRecord}
+use Rattle.ely_table.specs.Counts.{row_count}
+use Rattle.ely_table.specs.Faults.{class_of, texts_of, class_fault, fault, are_apart, IsAccepted}
+use Rattle.ely_table.proofs.NameCounts.{IsMade, count-push, count-none}
+use Rattle.ely_table.specs.Kept.{realms_of, table_of, count_of, count_after, last_from, last_touch, AreEmpty, AreKept, IsStep, IsSame, IsRecord}
 
--- the row after one more edit
-row_push : (edits : List Edit) (edit : Edit) (r n : List ℕ) → row (edits ++ edit ∷ []) r n ≡ row_after r n (row edits r n) edit
-unfolding row
-row_push edits edit r n = fold_push (row_after r n) None edits edit
-
--- the rows of a realm after one more edit
-count_push : (edits : List Edit) (edit : Edit) (r : List ℕ) → row_count (edits ++ edit ∷ []) r ≡ count_after r (row_count edits r) edit
-unfolding row_count
-count_push edits edit r = fold_push (count_after r) 0 edits edit
-
-last_from_push : (r n : List ℕ) (number last : ℕ) (edits : List Edit) (edit : Edit) → last_from r n number last (edits ++ edit ∷ []) ≡ cond (is_place r n (realm_of edit) (name_of edit)) (number + length edits + 1) (last_from r n number last edits)
+last_from_push : (r n : List ℕ) (number last : ℕ) (edits : List Edit) (edit : Edit) → last_from r n number last (edits ++ edit ∷ []) ≡ cond (is_of r n edit) (number + length edits + 1) (last_from r n number last edits)
 last_from_push r n number last [] edit =
     let same : number + 1 ≡ number + 0 + 1 = omega arith in
-    ap (λ (k : ℕ). cond (is_place r n (realm_of edit) (name_of edit)) k last) same
+    ap (λ (k : ℕ). cond (is_of r n edit) k last) same
 last_from_push r n number last (e ∷ edits) edit =
-    let next = cond (is_place r n (realm_of e) (name_of e)) (number + 1) last in
+    let next = cond (is_of r n e) (number + 1) last in
     let same : number + 1 + length edits + 1 ≡ number + length (e ∷ edits) + 1 = omega arith in
     last_from_push r n (number + 1) next edits edit
-    ∙ ap (λ (k : ℕ). cond (is_place r n (realm_of edit) (name_of edit)) k (last_from r n (number + 1) next edits)) same
+    ∙ ap (λ (k : ℕ). cond (is_of r n edit) k (last_from r n (number + 1) next edits)) same
 
 -- the number of the last edit of a name after one more edit
-last_push : (edits : List Edit) (edit : Edit) (r n : List ℕ) → last_touch (edits ++ edit ∷ []) r n ≡ cond (is_place r n (realm_of edit) (name_of edit)) (length edits + 1) (last_touch edits r n)
+last_push : (edits : List Edit) (edit : Edit) (r n : List ℕ) → last_touch (edits ++ edit ∷ []) r n ≡ cond (is_of r n edit) (length edits + 1) (last_touch edits r n)
 unfolding last_touch
 last_push edits edit r n =
     let same : 0 + length edits + 1 ≡ length edits + 1 = omega arith in
-    last_from_push r n 0 0 edits edit ∙ ap (λ (k : ℕ). cond (is_place r n (realm_of edit) (name_of edit)) k (last_from r n 0 0 edits)) same
+    last_from_push r n 0 0 edits edit ∙ ap (λ (k : ℕ). cond (is_of r n edit) k (last_from r n 0 0 edits)) same
 
 -- tables that say what a journal says, one edit on
-pub kept_step : (old new : List Table) (edits : List Edit) (edit : Edit) → AreKept old edits → IsStep old new edit (length edits + 1) → AreKept new (edits ++ edit ∷ [])
-kept_step old new edits edit kept step = record {
-  rows = λ r n. step.rows r n ∙ (ap (λ (x : Option Identity). row_after r n x edit) (kept.rows r n) ∙ sym (row_push edits edit r n));
-  lasts = λ r n. step.lasts r n ∙ (ap (λ (x : ℕ). cond (is_place r n (realm_of edit) (name_of edit)) (length edits + 1) x) (kept.lasts r n) ∙ sym (last_push edits edit r n));
-  counts = λ r. step.counts r ∙ (ap (λ (x : ℕ). count_after r x edit) (kept.counts r) ∙ sym (count_push edits edit r));
-}
+pub kept_step : (old new : List Table) (edits : List Edit) (edit : Edit) → AreKept (texts_of (realms_of old)) old edits → IsMade (texts_of (realms_of old)) edits edit → IsStep old new edit (length edits + 1) → AreKept (texts_of (realms_of old)) new (edits ++ edit ∷ [])
+kept_step old new edits edit kept made step =
+    let texts = texts_of (realms_of old) in
+    record {
+      rows = λ r n. step.rows r n ∙ (ap (λ (x : Option Row). row_after texts r n x edit) (kept.rows r n) ∙ sym (row-push texts edits edit r n));
+      lasts = λ r n. step.lasts r n ∙ (ap (λ (x : ℕ). cond (is_of r n edit) (length edits + 1) x) (kept.lasts r n) ∙ sym (last_push edits edit r n));
+      counts = λ r. step.counts r ∙ (ap (λ (x : ℕ). count_after r x edit) (kept.counts r) ∙ sym (count-push texts edits edit r made));
+    }
 
-kept_same : (old new : List Table) (edits : List Edit) → AreKept old edits → IsSame old new → AreKept new edits
-kept_same old new edits kept same = record {
+kept_same : (texts : Texts) (old new : List Table) (edits : List Edit) → AreKept texts old edits → IsSame old new → AreKept texts new edits
+kept_same texts old new edits kept same = record {
   rows = λ r n. same.rows r n ∙ kept.rows r n;
   lasts = λ r n. same.lasts r n ∙ kept.lasts r n;
   counts = λ r. same.counts r ∙ kept.counts r;
@@ -95,6 +90,20 @@ pub room_of : (realms : List (List ℕ × RealmClass)) (limit : ℕ) (edits : Li
 unfolding fault
 room_of realms limit edits edit none = leb-false limit (length edits) (below_limit (leb limit (length edits)) _ _ none)
 
+class_made : (class : Option RealmClass) (texts : Texts) (edits : List Edit) (edit : Edit) → class_fault class texts edits edit ≡ None → IsMade texts edits edit
+class_made None texts edits edit none = absurd cc
+class_made (Some Composite) texts edits edit none = absurd cc
+class_made (Some Modifiable) texts edits edit none = none
+
+else_none : (b : Bool) (f : EditFault) (other : Option EditFault) → cond b (Some f) other ≡ None → other ≡ None
+else_none true f other h = absurd cc
+else_none false f other h = h
+
+-- an edit without a fault has none by its row
+made_of : (realms : List (List ℕ × RealmClass)) (limit : ℕ) (edits : List Edit) (edit : Edit) → fault realms limit edits edit ≡ None → IsMade (texts_of realms) edits edit
+unfolding fault
+made_of realms limit edits edit none = class_made (class_of realms (realm_of edit)) (texts_of realms) edits edit (else_none (leb limit (length edits)) (JournalFull limit) _ none)
+
 -- the tables and the journal, one edit on
 pub record_step : (limit : ℕ) (old new : List Table) (edits : List Edit) (edit : Edit) → IsRecord limit old edits → fault (realms_of old) limit edits edit ≡ None → IsStep old new edit (length edits + 1) → IsRecord limit new (edits ++ edit ∷ [])
 record_step limit old new edits edit is none step =
@@ -104,7 +113,7 @@ record_step limit old new edits edit is none step =
       within = omega (arith, length_push edits edit, room);
       apart = subst (λ (realms : List (List ℕ × RealmClass)). are_apart realms ≡ true) (sym step.realms) is.apart;
       accepted = subst (λ (realms : List (List ℕ × RealmClass)). IsAccepted realms limit (edits ++ edit ∷ [])) (sym step.realms) (accepted_push (realms_of old) limit edits edit is.accepted none);
-      kept = kept_step old new edits edit is.kept step;
+      kept = subst (λ (realms : List (List ℕ × RealmClass)). AreKept (texts_of realms) new (edits ++ edit ∷ [])) (sym step.realms) (kept_step old new edits edit is.kept (made_of (realms_of old) limit edits edit none) step);
     }
 
 -- the tables and the journal where nothing is changed
@@ -114,7 +123,7 @@ record_same limit old new edits is same = record {
   within = is.within;
   apart = subst (λ (realms : List (List ℕ × RealmClass)). are_apart realms ≡ true) (sym same.realms) is.apart;
   accepted = subst (λ (realms : List (List ℕ × RealmClass)). IsAccepted realms limit edits) (sym same.realms) is.accepted;
-  kept = kept_same old new edits is.kept same;
+  kept = subst (λ (realms : List (List ℕ × RealmClass)). AreKept (texts_of realms) new edits) (sym same.realms) (kept_same (texts_of (realms_of old)) old new edits is.kept same);
 }
 
 class_in : (ts : List Table) (r : List ℕ) → class_of (realms_of ts) r ≡ option_map (λ (t : Table). t.class) (table_of ts r)
@@ -125,24 +134,24 @@ class_in (t ∷ ts) r = by_test (bytes_eq t.name r) (class_in ts r)
     by_test true rest = refl
     by_test false rest = rest
 
-own_kept : (class : RealmClass) (t : Table) (edits : List Edit) (edit : Edit) → t.rows ≡ row_count edits (realm_of edit) → entry_row (entry_in (Some t) (name_of edit)) ≡ row edits (realm_of edit) (name_of edit) → table_fault class t edit ≡ class_fault (Some class) edits edit
-own_kept Composite t edits edit counts rows = refl
-own_kept Modifiable t edits edit counts rows = ap (λ (k : ℕ). row_fault k (entry_row (entry_in (Some t) (name_of edit))) edit) counts ∙ ap (λ (x : Option Identity). row_fault (row_count edits (realm_of edit)) x edit) rows
+own_kept : (class : RealmClass) (texts : Texts) (t : Table) (edits : List Edit) (edit : Edit) → t.rows ≡ row_count edits (realm_of edit) → entry_row (entry_in (Some t) (name_of edit)) ≡ row texts edits (realm_of edit) (name_of edit) → table_fault class t edit ≡ class_fault (Some class) texts edits edit
+own_kept Composite texts t edits edit counts rows = refl
+own_kept Modifiable texts t edits edit counts rows = ap (λ (k : ℕ). row_fault k (entry_row (entry_in (Some t) (name_of edit))) edit) counts ∙ ap (λ (x : Option Row). row_fault (row_count edits (realm_of edit)) x edit) rows
 
 -- what is kept refuses what the journal refuses, and for the same reason
-pub fault_kept : (limit : ℕ) (ts : List Table) (edits : List Edit) (edit : Edit) → AreKept ts edits → cond (leb limit (length edits)) (Some (JournalFull limit)) (kept_fault (table_of ts (realm_of edit)) edit) ≡ fault (realms_of ts) limit edits edit
+pub fault_kept : (limit : ℕ) (ts : List Table) (edits : List Edit) (edit : Edit) → AreKept (texts_of (realms_of ts)) ts edits → cond (leb limit (length edits)) (Some (JournalFull limit)) (kept_fault (table_of ts (realm_of edit)) edit) ≡ fault (realms_of ts) limit edits edit
 unfolding fault
 fault_kept limit ts edits edit kept =
-    ap (λ (f : Option EditFault). cond (leb limit (length edits)) (Some (JournalFull limit)) f) (by_table (table_of ts (realm_of edit)) refl ∙ ap (λ (c : Option RealmClass). class_fault c edits edit) (sym (class_in ts (realm_of edit))))
+    ap (λ (f : Option EditFault). cond (leb limit (length edits)) (Some (JournalFull limit)) f) (by_table (table_of ts (realm_of edit)) refl ∙ ap (λ (c : Option RealmClass). class_fault c (texts_of (realms_of ts)) edits edit) (sym (class_in ts (realm_of edit))))
   where
-    by_table : (found : Option Table) → table_of ts (realm_of edit) ≡ found → kept_fault found edit ≡ class_fault (option_map (λ (t : Table). t.class) found) edits edit
+    by_table : (found : Option Table) → table_of ts (realm_of edit) ≡ found → kept_fault found edit ≡ class_fault (option_map (λ (t : Table). t.class) found) (texts_of (realms_of ts)) edits edit
     by_table None is = refl
-    by_table (Some t) is = own_kept t.class t edits edit
+    by_table (Some t) is = own_kept t.class (texts_of (realms_of ts)) t edits edit
         (ap rows_in (sym is) ∙ kept.counts (realm_of edit))
         (ap (λ (x : Option Table). entry_row (entry_in x (name_of edit))) (sym is) ∙ kept.rows (realm_of edit) (name_of edit))
 
 -- the fault that is found by what is kept is that of the journal
-pub fault_found : (limit made : ℕ) (seen ts : List Table) (edits : List Edit) (edit : Edit) (found : Option EditFault) → made ≡ length edits → seen ≡ ts → AreKept ts edits → found ≡ cond (leb limit made) (Some (JournalFull limit)) (kept_fault (table_of seen (realm_of edit)) edit) → fault (realms_of ts) limit edits edit ≡ found
+pub fault_found : (limit made : ℕ) (seen ts : List Table) (edits : List Edit) (edit : Edit) (found : Option EditFault) → made ≡ length edits → seen ≡ ts → AreKept (texts_of (realms_of ts)) ts edits → found ≡ cond (leb limit made) (Some (JournalFull limit)) (kept_fault (table_of seen (realm_of edit)) edit) → fault (realms_of ts) limit edits edit ≡ found
 fault_found limit made seen ts edits edit found count same kept is = sym (
     is
     ∙ ap (λ (k : ℕ). cond (leb limit k) (Some (JournalFull limit)) (kept_fault (table_of seen (realm_of edit)) edit)) count
@@ -166,12 +175,12 @@ no_rows (t ∷ ts) r h = by_test (bytes_eq t.name r) (no_rows ts r h.1)
     by_test false rest = rest
 
 -- empty tables are what no edits make
-pub kept_none : (ts : List Table) → AreEmpty ts → AreKept ts []
-unfolding row row_count last_touch
-kept_none ts h = record {
+pub kept_none : (texts : Texts) (ts : List Table) → AreEmpty ts → AreKept texts ts []
+unfolding row last_touch
+kept_none texts ts h = record {
   rows = λ r n. ap entry_row (no_entry ts r n h);
   lasts = λ r n. ap entry_last (no_entry ts r n h);
-  counts = λ r. no_rows ts r h;
+  counts = λ r. no_rows ts r h ∙ sym (count-none r);
 }
 
 -- tables without edits
@@ -181,5 +190,5 @@ record_none limit ts realms few apart same empty = record {
   within = omega arith;
   apart = subst (λ (xs : List (List ℕ × RealmClass)). are_apart xs ≡ true) (sym same) apart;
   accepted = accepted_none (realms_of ts) limit;
-  kept = kept_none ts empty;
+  kept = kept_none (texts_of (realms_of ts)) ts empty;
 }

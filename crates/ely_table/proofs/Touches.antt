@@ -3,7 +3,7 @@ use Rattle.std.proofs.Common.{◌≡◌, ℕ, zero, suc, ◌+◌, ◌-◌, ◌<�
 use Rattle.std.specs.List.{list_any}
 use Rattle.std.proofs.lemmas.Bool.{lt-ltb, le-ltb, cases_lt}
 use Rattle.ely_row.specs.declared.edit.Edit.{Edit}
-use Rattle.ely_row.specs.Rows.{is_place, realm_of, name_of}
+use Rattle.ely_row.specs.Edits.{Texts, is_of}
 use Rattle.ely_table.specs.declared.table.Table.{Table}
 use Rattle.ely_table.specs.Touching.{touched_since}
 use Rattle.ely_table.specs.Kept.{last_of, last_from, last_touch, AreKept}
@@ -73,24 +73,24 @@ drop_nil : (m : ℕ) → [] ≡ drop {A = Edit} m []
 drop_nil zero = refl
 drop_nil (suc m) = refl
 
-any_from : (r n : List ℕ) (v k last : ℕ) (edits : List Edit) → last ≤ k → ltb v (last_from r n k last edits) ≡ (ltb v last || list_any (λ (e : Edit). is_place r n (realm_of e) (name_of e)) (drop (v - k) edits))
-any_from r n v k last [] low = or_false (ltb v last) ∙ ap (λ (es : List Edit). ltb v last || list_any (λ (e : Edit). is_place r n (realm_of e) (name_of e)) es) (drop_nil (v - k))
+any_from : (r n : List ℕ) (v k last : ℕ) (edits : List Edit) → last ≤ k → ltb v (last_from r n k last edits) ≡ (ltb v last || list_any (is_of r n) (drop (v - k) edits))
+any_from r n v k last [] low = or_false (ltb v last) ∙ ap (λ (es : List Edit). ltb v last || list_any (is_of r n) es) (drop_nil (v - k))
 any_from r n v k last (edit ∷ edits) low =
-    let here = is_place r n (realm_of edit) (name_of edit) in
+    let here = is_of r n edit in
     any_from r n v (k + 1) (cond here (k + 1) last) edits (number_within here k last low)
-    ∙ passed here v k last edit (λ (e : Edit). is_place r n (realm_of e) (name_of e)) edits refl low
+    ∙ passed here v k last edit (is_of r n) edits refl low
 
 -- whether a later edit is of the name
-any_later_touch : (edits : List Edit) (v : ℕ) (r n : List ℕ) → list_any (λ (e : Edit). is_place r n (realm_of e) (name_of e)) (drop v edits) ≡ ltb v (last_touch edits r n)
+any_later_touch : (edits : List Edit) (v : ℕ) (r n : List ℕ) → list_any (is_of r n) (drop v edits) ≡ ltb v (last_touch edits r n)
 unfolding last_touch
 any_later_touch edits v r n =
     let start : v - 0 ≡ v = omega arith in
     let none : ltb v 0 ≡ false = le-ltb v 0 (omega arith) in
-    sym (any_from r n v 0 0 edits (omega arith) ∙ (ap (λ (b : Bool). b || list_any (λ (e : Edit). is_place r n (realm_of e) (name_of e)) (drop (v - 0) edits)) none ∙ ap (λ (k : ℕ). list_any (λ (e : Edit). is_place r n (realm_of e) (name_of e)) (drop k edits)) start))
+    sym (any_from r n v 0 0 edits (omega arith) ∙ (ap (λ (b : Bool). b || list_any (is_of r n) (drop (v - 0) edits)) none ∙ ap (λ (k : ℕ). list_any (is_of r n) (drop k edits)) start))
 
 -- whether a later edit touches one of the places
-pub touched_kept : (ts : List Table) (edits : List Edit) (v : ℕ) (deps : List (List ℕ × List ℕ)) → AreKept ts edits → list_any (λ (place : List ℕ × List ℕ). ltb v (last_of ts place.0 place.1)) deps ≡ touched_since edits v deps
+pub touched_kept : (texts : Texts) (ts : List Table) (edits : List Edit) (v : ℕ) (deps : List (List ℕ × List ℕ)) → AreKept texts ts edits → list_any (λ (place : List ℕ × List ℕ). ltb v (last_of ts place.0 place.1)) deps ≡ touched_since edits v deps
 unfolding touched_since
-touched_kept ts edits v deps kept =
+touched_kept texts ts edits v deps kept =
     any_same _ _ (λ (place : List ℕ × List ℕ). ap (ltb v) (kept.lasts place.0 place.1) ∙ sym (any_later_touch edits v place.0 place.1)) deps
-    ∙ sym (any_swap (λ (e : Edit) (place : List ℕ × List ℕ). is_place place.0 place.1 (realm_of e) (name_of e)) (drop v edits) deps)
+    ∙ sym (any_swap (λ (e : Edit) (place : List ℕ × List ℕ). is_of place.0 place.1 e) (drop v edits) deps)

@@ -5,14 +5,15 @@ use Rattle.ely_row.specs.declared.edit.Edit.{Edit}
 use Rattle.ely_row.specs.declared.edit.Edit.TheVariants.{Add, Remove}
 use Rattle.ely_row.specs.declared.edit.EditFault.{EditFault}
 use Rattle.ely_row.specs.declared.edit.EditFault.TheVariants.{NoRealm, ReadOnly}
-use Rattle.ely_row.specs.Rows.{Identity, name_cmp, name_of, changed, row_fault}
+use Rattle.ely_row.specs.Rows.{Row, name_cmp}
+use Rattle.ely_row.specs.Edits.{name_of, changed, row_fault}
 use Rattle.ely_table.specs.declared.class.RealmClass.{RealmClass}
 use Rattle.ely_table.specs.declared.class.RealmClass.TheVariants.{Modifiable, Composite}
 use Rattle.ely_table.specs.declared.table.Entry.{Entry}
 use Rattle.ely_table.specs.declared.table.Table.{Table}
 
 -- the row of a name that has this entry, or none
-abbrev pub entry_row : Option Entry → Option Identity
+abbrev pub entry_row : Option Entry → Option Row
 entry_row None = None
 entry_row (Some entry) = entry.row
 

@@ -1,13 +1,16 @@
 -- What the tables of all realms say, and that they say what the journal says.
-use Rattle.std.specs.Prelude.{◌≡◌, ℕ, ◌+◌, ◌≤◌, IsTrue, if◌then◌else◌, List, [], ◌∷◌, map, find, length, Option}
+use Rattle.std.specs.Prelude.{◌≡◌, ℕ, ◌+◌, ◌-◌, ◌≤◌, IsTrue, if◌then◌else◌, List, [], ◌∷◌, map, find, length, Option}
 use Rattle.std.specs.List.{AllByRecursion}
 use Rattle.std.specs.Str.{bytes_eq}
 use Rattle.ely_row.specs.declared.edit.Edit.{Edit}
-use Rattle.ely_row.specs.Rows.{Identity, is_place, realm_of, name_of, row, row_after}
+use Rattle.ely_row.specs.declared.edit.Edit.TheVariants.{Add, Remove}
+use Rattle.ely_row.specs.Rows.{Row}
+use Rattle.ely_row.specs.Edits.{Texts, is_of, row, row_after}
 use Rattle.ely_table.specs.declared.class.RealmClass.{RealmClass}
 use Rattle.ely_table.specs.declared.table.Table.{Table}
 use Rattle.ely_table.specs.Entries.{entry_in, entry_row, entry_last, rows_in}
-use Rattle.ely_table.specs.Faults.{count_after, row_count, are_apart, IsAccepted}
+use Rattle.ely_table.specs.Counts.{row_count}
+use Rattle.ely_table.specs.Faults.{are_apart, texts_of, IsAccepted}
 
 -- the realms of the tables, with their classes
 abbrev pub realms_of : List Table → List (List ℕ × RealmClass)
@@ -18,7 +21,7 @@ abbrev pub table_of : List Table → List ℕ → Option Table
 table_of tables r = find (λ table. bytes_eq table.name r) tables
 
 -- the row that is kept of the name
-abbrev pub row_of : List Table → List ℕ → List ℕ → Option Identity
+abbrev pub row_of : List Table → List ℕ → List ℕ → Option Row
 row_of tables r n = entry_row (entry_in (table_of tables r) n)
 
 -- the number that is kept of the last edit of the name
@@ -32,23 +35,29 @@ count_of tables r = rows_in (table_of tables r)
 -- the number of the last edit of the name, after edits that end with the one of this number; each edit is one of them
 abbrev pub last_from : List ℕ → List ℕ → ℕ → ℕ → List Edit → ℕ
 last_from r n number last [] = last
-last_from r n number last (edit ∷ edits) = last_from r n (number + 1) (if is_place r n (realm_of edit) (name_of edit) then number + 1 else last) edits
+last_from r n number last (edit ∷ edits) = last_from r n (number + 1) (if is_of r n edit then number + 1 else last) edits
 
 -- the number, counted from 1, of the last of these edits that is of the name; 0 where none is
 unfoldable pub last_touch : List Edit → List ℕ → List ℕ → ℕ
 last_touch edits r n = last_from r n 0 0 edits
 
+-- how many rows are kept of the realm after an edit that was accepted, where so many were before it
+abbrev pub count_after : List ℕ → ℕ → Edit → ℕ
+count_after r count (Add realm name) = if bytes_eq realm r then count + 1 else count
+count_after r count (Remove realm name) = if bytes_eq realm r then count - 1 else count
+count_after r count _ = count
+
 -- the tables say of every name and of every realm what the edits make of it
-pub record AreKept (tables : List Table) (edits : List Edit) : Type 0 where
-  pub rows : (r n : List ℕ) → row_of tables r n ≡ row edits r n
+pub record AreKept (texts : Texts) (tables : List Table) (edits : List Edit) : Type 0 where
+  pub rows : (r n : List ℕ) → row_of tables r n ≡ row texts edits r n
   pub lasts : (r n : List ℕ) → last_of tables r n ≡ last_touch edits r n
   pub counts : (r : List ℕ) → count_of tables r ≡ row_count edits r
 
 -- the edit is made, and has this number
 pub record IsStep (old new : List Table) (edit : Edit) (number : ℕ) : Type 0 where
   pub realms : realms_of new ≡ realms_of old
-  pub rows : (r n : List ℕ) → row_of new r n ≡ row_after r n (row_of old r n) edit
-  pub lasts : (r n : List ℕ) → last_of new r n ≡ (if is_place r n (realm_of edit) (name_of edit) then number else last_of old r n)
+  pub rows : (r n : List ℕ) → row_of new r n ≡ row_after (texts_of (realms_of old)) r n (row_of old r n) edit
+  pub lasts : (r n : List ℕ) → last_of new r n ≡ (if is_of r n edit then number else last_of old r n)
   pub counts : (r : List ℕ) → count_of new r ≡ count_after r (count_of old r) edit
 
 -- nothing is changed that is kept
@@ -64,7 +73,7 @@ pub record IsRecord (limit : ℕ) (tables : List Table) (journal : List Edit) : 
   pub within : length journal ≤ limit
   pub apart : IsTrue (are_apart (realms_of tables))
   pub accepted : IsAccepted (realms_of tables) limit journal
-  pub kept : AreKept tables journal
+  pub kept : AreKept (texts_of (realms_of tables)) tables journal
 
 -- nothing is kept of any name
 abbrev pub AreEmpty : List Table → Type 0

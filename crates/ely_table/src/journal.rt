@@ -6,7 +6,7 @@ ghost use Rattle.std.specs.Vec.{vec_capacity};
 ghost use Rattle.std.specs.Option.{option_copied};
 ghost use Rattle.std.specs.Str.{bytes_eq};
 ghost use Rattle.ely_row.specs.declared.edit.EditFault.TheVariants.{JournalFull};
-ghost use Rattle.ely_row.specs.Rows.{realm_of};
+ghost use Rattle.ely_row.specs.Edits.{realm_of};
 ghost use Rattle.ely_table.specs.Entries.{kept_fault, entry_row, entry_last};
 ghost use Rattle.ely_table.specs.Kept.{table_of, row_of, last_of, IsStep, IsSame};
 
@@ -22,8 +22,8 @@ pub fn table_of<'a>(tables: &'a [Table], realm: &Name) -> Option<&'a Table>
     tables.iter().find(|table| table.name.is(realm))
 }
 
-/// Where the table of the realm is.
-fn place_of(tables: &[Table], realm: &Name) -> Option<usize>
+/// The index of the table of the realm.
+fn index_of(tables: &[Table], realm: &Name) -> Option<usize>
     ensures { result ≡ position (λ table. bytes_eq table.name realm.now) tables.now }
 {
     tables.iter().position(|table| table.name.is(realm))
@@ -73,7 +73,8 @@ fn last_of(tables: &[Table], realm: &Name, name: &Name) -> u64
 
 /// Whether one of the places was edited after the first `seen` edits.
 pub fn any_later(tables: &[Table], seen: u64, deps: &Deps) -> bool
-    ensures { result ≡ list_any (λ place. nat_lt seen (last_of tables.now place.0 place.1)) deps.now }
+    ensures { result
+        ≡ list_any (λ place. nat_lt seen (last_of tables.now place.0 place.1)) deps.now }
 {
     deps.all()
         .iter()
@@ -82,7 +83,8 @@ pub fn any_later(tables: &[Table], seen: u64, deps: &Deps) -> bool
 
 /// Why the edit is refused, where the journal has `made` edits and takes `limit`.
 pub fn fault_of(tables: &[Table], limit: u32, made: usize, edit: &Edit) -> Option<EditFault>
-    ensures { result ≡ (if nat_le limit made then Some (JournalFull limit) else kept_fault (table_of tables.now (realm_of edit.now)) edit.now) }
+    ensures { result ≡ (if nat_le limit made then Some (JournalFull limit)
+        else kept_fault (table_of tables.now (realm_of edit.now)) edit.now) }
 {
     if made >= limit as usize {
         return Some(EditFault::JournalFull(limit));
@@ -96,7 +98,7 @@ fn put(alloc: Global, tables: &mut [Table], edit: &Edit, number: u64) -> Result<
     ensures ok { OnOk result (IsStep tables.old tables.new edit.now number) }
     ensures err { OnErr result (IsSame tables.old tables.new) }
 {
-    let Some(at) = place_of(tables, edit.realm()) else {
+    let Some(at) = index_of(tables, edit.realm()) else {
         unreachable!();
     };
     let table = &mut tables[at];
@@ -124,7 +126,8 @@ pub fn record(
     requires fault { kept_fault (table_of tables.old (realm_of edit)) edit ≡ None }
     requires few { length journal.old.items < 2 ^ 32 }
     ensures journal { OnOk result (journal.new.items ≡ journal.old.items ++ edit ∷ []) }
-    ensures tables { OnOk result (IsStep tables.old tables.new edit (length journal.old.items + 1)) }
+    ensures tables { OnOk result
+        (IsStep tables.old tables.new edit (length journal.old.items + 1)) }
     ensures journal_stays { OnErr result (journal.new.items ≡ journal.old.items) }
     ensures tables_stay { OnErr result (IsSame tables.old tables.new) }
 {

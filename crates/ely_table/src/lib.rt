@@ -5,10 +5,12 @@
 
 mod class;
 mod journal;
+mod laws;
 mod table;
 mod tables;
 
 pub use class::RealmClass;
+pub use laws::rows_are_counted;
 pub use tables::Tables;
 
 #[cfg(test)]

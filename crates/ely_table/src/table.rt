@@ -3,7 +3,8 @@
 ghost use Rattle.std.specs.Prelude.{◌≡◌, ◌<◌, ◌^◌, IfOk, OnOk, OnErr};
 ghost use Rattle.std.specs.Option.{option_copied};
 ghost use Rattle.std.specs.BTreeMap.{get};
-ghost use Rattle.ely_row.specs.Rows.{name_cmp, name_of, row_fault};
+ghost use Rattle.ely_row.specs.Rows.{name_cmp};
+ghost use Rattle.ely_row.specs.Edits.{name_of, row_fault};
 ghost use Rattle.ely_table.specs.Entries.{entry_row, rows_after, kept_fault, IsTaken, IsSameTable};
 
 use crate::class::RealmClass;
@@ -85,7 +86,8 @@ fn shared(alloc: Global, row: Option<Row>) -> Result<Option<SharedRow>, NoMemory
 
 /// Makes an edit that has no fault, the one of this number. Where memory runs out, all stays as it was.
 pub fn take(alloc: Global, table: &mut Table, edit: &Edit, number: u64) -> Result<(), NoMemory>
-    requires { row_fault table.old.rows (entry_row (get name_cmp table.old.entries (name_of edit.now))) edit.now ≡ None }
+    requires { row_fault table.old.rows
+        (entry_row (get name_cmp table.old.entries (name_of edit.now))) edit.now ≡ None }
     ensures ok { OnOk result (IsTaken table.old table.new edit.now number) }
     ensures err { OnErr result (IsSameTable table.old table.new) }
 {

@@ -1,8 +1,9 @@
 //! The tables that the accepted edits made, with the journal of those edits.
 
-ghost use Rattle.std.specs.Prelude.{◌≡◌, ◌+◌, ◌≤◌, IsTrue, [], length, IfOk, IfErr, OnOk, OnErr};
-ghost use Rattle.ely_row.specs.Rows.{row};
-ghost use Rattle.ely_table.specs.Faults.{are_apart, fault, IsAccepted, IsRefusal, recorded};
+ghost use Rattle.std.specs.Prelude.{◌≡◌, ◌+◌, ◌-◌, ◌≤◌, IsTrue, [], length, slice_get, IfOk, IfErr, OnOk, OnErr};
+ghost use Rattle.std.specs.Option.{option_copied};
+ghost use Rattle.ely_row.specs.Edits.{row};
+ghost use Rattle.ely_table.specs.Faults.{are_apart, texts_of, fault, IsAccepted, IsRefusal, recorded};
 ghost use Rattle.ely_table.specs.Touching.{touched_since};
 ghost use Rattle.ely_table.specs.Kept.{realms_of, AreEmpty};
 
@@ -26,10 +27,10 @@ pub struct Tables {
 }
 
 impl Model for Tables {
-    ghost use Rattle.ely_table.specs.Faults.{Recorded};
+    ghost use Rattle.ely_table.specs.Faults.{Tables};
     ghost use Rattle.ely_table.specs.Kept.{realms_of, IsRecord};
 
-    ghost Value = { Recorded };
+    ghost Value = { Tables };
 
     ghost view = { λ t. record { realms = realms_of t.tables.items; limit = t.limit; journal = t.journal.items } };
 
@@ -63,7 +64,8 @@ impl Tables {
         requires apart { IsTrue (are_apart realms.items) }
         requires some { 1 ≤ journal_limit }
         requires most { journal_limit ≤ 131072 }
-        ensures { IfOk result (λ tables. tables ≡ record { realms = realms.items; limit = journal_limit; journal = [] }) }
+        ensures { IfOk result (λ tables. tables
+            ≡ record { realms = realms.items; limit = journal_limit; journal = [] }) }
     {
         Ok(Tables {
             tables: empty_tables(alloc, realms)?,
@@ -75,10 +77,12 @@ impl Tables {
     /// Makes the edit, or says the first reason against it. The answer is how many edits there are then. Where it is
     /// refused, and where memory runs out, nothing is changed.
     pub fn apply(&mut self, alloc: Global, edit: Edit) -> Result<Version, Refused<EditFault>>
-        ensures version { IfOk result (λ version. version.0 ≡ length self.old.journal + 1) }
-        ensures accepted { OnOk result (fault self.old.realms self.old.limit self.old.journal edit ≡ None) }
+        ensures version { IfOk result (λ version. version ≡ length self.old.journal + 1) }
+        ensures accepted { OnOk result
+            (fault self.old.realms self.old.limit self.old.journal edit ≡ None) }
         ensures after { OnOk result (self.new ≡ recorded self.old edit) }
-        ensures refused { IfErr result (λ refusal. IsRefusal refusal (fault self.old.realms self.old.limit self.old.journal edit)) }
+        ensures refused { IfErr result (λ refusal. IsRefusal refusal
+            (fault self.old.realms self.old.limit self.old.journal edit)) }
         ensures err { OnErr result (self.new ≡ self.old) }
     {
         if let Some(fault) = fault_of(&self.tables, self.limit, self.journal.len(), &edit) {
@@ -90,7 +94,7 @@ impl Tables {
 
     /// How many edits were accepted.
     pub fn version(&self) -> Version
-        ensures value { result.0 ≡ length self.now.journal }
+        ensures value { result ≡ length self.now.journal }
         ensures within { length self.now.journal ≤ self.now.limit }
         ensures few { self.now.limit ≤ 131072 }
         ensures accepted { IsAccepted self.now.realms self.now.limit self.now.journal }
@@ -98,17 +102,24 @@ impl Tables {
         Version(self.journal.len() as u64)
     }
 
+    /// The last edit that was accepted.
+    pub fn last(&self) -> Option<&Edit>
+        ensures { option_copied result ≡ slice_get self.now.journal (length self.now.journal - 1) }
+    {
+        self.journal.last()
+    }
+
     /// Whether an edit after that version changes one of the places.
     pub fn touched_since(&self, v: Version, deps: &Deps) -> bool
-        requires { v.0 ≤ length self.now.journal }
-        ensures { result ≡ touched_since self.now.journal v.0 deps.now }
+        requires { v ≤ length self.now.journal }
+        ensures { result ≡ touched_since self.now.journal v deps.now }
     {
         any_later(&self.tables, v.0, deps)
     }
 }
 
 impl RowSource for Tables {
-    ghost rows = { λ t r n. row t.journal r n };
+    ghost rows = { λ t r n. row (texts_of t.realms) t.journal r n };
 
     fn row_now(&self, realm: &Name, name: &Name) -> Option<&Row> {
         row_of(&self.tables, realm, name)

@@ -6,4 +6,4 @@ pub returns-in-None-clause-parts : goal.returns-in-None-clause-parts
 returns-in-None-clause-parts c = cut_none c.args.mark c.args.bytes.now (sym c.in-None.ensures)
 
 pub returns-in-Some-clause-parts : goal.returns-in-Some-clause-parts
-returns-in-Some-clause-parts c = cut_some c.args.mark c.args.bytes.now c.in-Some.place (sym c.in-Some.ensures)
+returns-in-Some-clause-parts c = cut_some c.args.mark c.args.bytes.now c.in-Some.offset (sym c.in-Some.ensures)

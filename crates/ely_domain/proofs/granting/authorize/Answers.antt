@@ -1,22 +1,43 @@
-use Rattle.std.proofs.Common.{Some, sym, ap, ◌∙◌}
-use Rattle.std.specs.Option.{option_map}
-use Rattle.ely_domain.specs.Contexts.{pinned}
-use Rattle.ely_script.specs.declared.outcome.Outcome.TheVariants as outcomes
-use Rattle.ely_domain.proofs.Pins.{past_of, authorized}
-use Rattle.std.proofs.lemmas.Option.{same_Some}
+use Rattle.std.proofs.Common.{ap, Some, cond, refl, sym, ◌∙◌}
+use Rattle.ely_context.specs.Logins.{login_of}
+use Rattle.ely_domain.specs.Contexts.{read_of}
+use Rattle.ely_domain.proofs.Seeing.{others_with, itself_with}
+use Rattle.ely_domain.proofs.Sounds.{refused_reply, authorized_reply, authorized_sound, not_refused}
 use Rattle.ely_domain.proofs.granting.authorize.Goals as goal
 
-pub returns-clause-ok : goal.returns-clause-ok
-returns-clause-ok c =
-    let found = c.in-Ok.ensures.found in
-    let granted = sym (c.grants.ensures c.args.tables.now.journal) ∙ c.if-not-grants.false in
-    let moved = c.set_prepared.ensures.is _ found.is in
-    found.answers _ _ (authorized c.args.tables.now.journal _ _ _ _ (pinned c.in-Some.pin) (ap (option_map pinned) c.in-Some.is) granted ∙ ap (λ live. (outcomes.Authorized, live)) (sym moved))
+pub returns-in-Err-clause-reply : goal.returns-in-Err-clause-reply
+returns-in-Err-clause-reply c =
+    let login = c.args.context.now in
+    let known = read_of c.args.config.now c.args.tables.now in
+    refused_reply known login.serial login.mech login.nonce login.stage c.in-Err.refusal (rw c.in-Err.is at (c.in_ok-refusal.ensures known c.requires.0))
 
-pub returns-clause-sound : goal.returns-clause-sound
-returns-clause-sound c =
-    let found = c.in-Ok.ensures.found in
-    c.set_prepared.ensures.sound c.args.tables.now.journal c.requires
-    (λ l is.
-    let same = same_Some _ _ (sym found.is ∙ is) in
-    rw (← same) (rw c.in-Some.is (ap Some (c.in_ok-prepared.ensures c.args.tables.now.journal (past_of _ _ _ (c.in-Ok.ensures.sound c.args.tables.now.journal c.requires).past c.in-Some.is)))))
+pub returns-in-Ok-authorize-clause-reply : goal.returns-in-Ok-authorize-clause-reply
+returns-in-Ok-authorize-clause-reply c =
+    let login = c.args.context.now in
+    let known = read_of c.args.config.now c.args.tables.now in
+    authorized_reply known login.serial login.mech login.nonce login.stage c.authorize.new.self c.in-Ok.prepared (rw c.in-Ok.is at (c.in_ok-refusal.ensures known c.requires.0)) c.in-Ok-authorize.ensures.moved
+
+pub returns-in-Ok-authorize-clause-sound : goal.returns-in-Ok-authorize-clause-sound
+returns-in-Ok-authorize-clause-sound c =
+    let login = c.args.context.now in
+    let known = read_of c.args.config.now c.args.tables.now in
+    authorized_sound known login.serial login.mech login.nonce login.stage c.authorize.new.self c.in-Ok.prepared (login_of c.keep.new.self c.args.id)
+    (rw c.in-Ok.is at (c.in_ok-refusal.ensures known c.requires.0)) c.requires.0
+    (ap (λ entries. login_of entries c.args.id) c.in_ok-keep-in-Ok.ensures.kept ∙ itself_with c.args.handouts.now c.args.id c.in-Ok.prepared)
+    c.in-Ok-authorize.ensures.moved
+
+pub returns-in-Ok-authorize-clause-others : goal.returns-in-Ok-authorize-clause-others
+returns-in-Ok-authorize-clause-others c = λ other apart.
+    ap (λ entries. login_of entries other) c.in_ok-keep-in-Ok.ensures.kept ∙ others_with c.args.handouts.now c.args.id c.in-Ok.prepared other apart
+
+pub returns-in-Err-authorize-clause-sound : goal.returns-in-Err-authorize-clause-sound
+returns-in-Err-authorize-clause-sound c =
+    let login = c.args.context.now in
+    let known = read_of c.args.config.now c.args.tables.now in
+    not_refused known login.serial login.mech login.nonce login.stage c.in-Ok.prepared (rw c.in-Ok.is at (c.in_ok-refusal.ensures known c.requires.0)) c.in-Err-authorize.ensures.refused
+
+pub returns-in-Err-authorize-clause-others : goal.returns-in-Err-authorize-clause-others
+returns-in-Err-authorize-clause-others c =
+    let login = c.args.context.now in
+    let known = read_of c.args.config.now c.args.tables.now in
+    not_refused known login.serial login.mech login.nonce login.stage c.in-Ok.prepared (rw c.in-Ok.is at (c.in_ok-refusal.ensures known c.requires.0)) c.in-Err-authorize.ensures.refused

@@ -1,33 +1,30 @@
+use Rattle.std.proofs.Common.{ℕ, List, map, refl}
+use Rattle.ely_script.specs.Text.{text_from, numbered}
 use Rattle.ely_front.specs.declared.replay.Replay.{Replay}
-use Rattle.ely_front.proofs.Afters.{IsAnswered, said_so, after_so, price_so}
+use Rattle.ely_front.proofs.AnswerLemmas.{IsAnswered, line_answered}
 use Rattle.ely_front.proofs.replay.Replay.answer.Given.{Over}
 use Rattle.ely_front.proofs.replay.Replay.answer.Goals as goal
 
-new : (g : Over) → goal.After-drop-entries-2 g → Replay
-new g c = record { domain = c.run_line.new.domain; counts = c.next_line.new.counts; number = c.in_ok-self.field-0 }
+new : (g : Over) → goal.After-self-1 g → Replay
+new g c = record { domain = c.run_into.new.domain; counts = c.next_line.new.counts; entries = c.run_into.new.entries; number = c.in-Ok.next }
 
-answered : (g : Over) (c : goal.After-drop-entries-2 g) → IsAnswered c.args.self.now (new g c) c.args.line.now c.in_ok-number.number c.in_ok-entries.entries.items c.push_entries.new.out.items c.args.steps.now c.run_line.new.steps
+-- the text of its steps
+abbrev said : (g : Over) → goal.After-self-1 g → List ℕ
+said g c = text_from c.args.self.now.number (map (numbered c.in_ok-number.number) c.run_into.new.entries.items)
+
+answered : (g : Over) (c : goal.After-self-1 g) → IsAnswered c.args.self.now (new g c) c.args.line.now c.in_ok-number.number c.run_into.new.entries.items (said g c) c.args.steps.now c.run_into.new.steps
 unfolding new
 answered g c = record {
-  entries_are = c.in_ok-entries.ensures.entries;
-  machine_is = c.in_ok-entries.ensures.machine;
-  given_is = c.run_line.ensures.given;
+  makes = rw c.clear.ensures.items at c.in_ok-run_into.ensures.made;
+  given_is = c.run_into.ensures.given;
   line_is = rw c.actor_of.ensures at c.in_ok-number.ensures.number;
   here = rw c.actor_of.ensures at c.in_ok-number.ensures.counted;
   others = rw c.actor_of.ensures at c.in_ok-number.ensures.others;
-  number_is = rw c.deref.ensures.value at c.in_ok-self.ensures.number;
-  paid = c.run_line.ensures.cost;
-  said_is = rw (c.deref.ensures.value, c.new-out.ensures.items) at c.in_ok-self.ensures.text;
+  number_is = rw c.deref.ensures.value at c.in-Ok.ensures.number;
+  said_is = refl;
+  paid = c.run_into.ensures.cost;
 }
 
-pub returns-clause-text : goal.returns-clause-text
+pub returns-in-Ok-clause-answered : goal.returns-in-Ok-clause-answered
 unfolding new
-returns-clause-text g c = said_so c.args.self.now (new g c) c.args.line.now c.in_ok-number.number c.in_ok-entries.entries.items c.push_entries.new.out.items c.args.steps.now c.run_line.new.steps (answered g c)
-
-pub returns-clause-after : goal.returns-clause-after
-unfolding new
-returns-clause-after g c = after_so c.args.self.now (new g c) c.args.line.now c.in_ok-number.number c.in_ok-entries.entries.items c.push_entries.new.out.items c.args.steps.now c.run_line.new.steps (answered g c)
-
-pub returns-clause-price : goal.returns-clause-price
-unfolding new
-returns-clause-price g c = price_so c.args.self.now (new g c) c.args.line.now c.in_ok-number.number c.in_ok-entries.entries.items c.push_entries.new.out.items c.args.steps.now c.run_line.new.steps (answered g c)
+returns-in-Ok-clause-answered g c = λ given lines h after. line_answered c.args.self.now (new g c) c.args.line.now c.in_ok-number.number c.run_into.new.entries.items (said g c) c.args.steps.now c.run_into.new.steps (answered g c) given lines h after c.args.out.now.items c.push_entries.new.out.items (rw c.deref.ensures.value at c.in-Ok.ensures.text)

@@ -9,6 +9,7 @@ pub returns : goal.returns
 returns c =
     let edits = c.self.inside.journal.items in
     c.any_later.ensures
-    ∙ ap (λ (ts : List Table). list_any (λ (place : List ℕ × List ℕ). ltb c.args.v.0 (last_of ts place.0 place.1)) c.args.deps.now) c.deref.ensures.value
-    ∙ touched_kept c.self.inside.tables.items edits c.args.v.0 c.args.deps.now c.self.invariant.kept
+    ∙ ap (λ (ts : List Table). list_any (λ (place : List ℕ × List ℕ). ltb c.v.inside.0 (last_of ts place.0 place.1)) c.args.deps.now) c.deref.ensures.value
+    ∙ ap (λ (v : ℕ). list_any (λ (place : List ℕ × List ℕ). ltb v (last_of c.self.inside.tables.items place.0 place.1)) c.args.deps.now) c.v.view_is
+    ∙ touched_kept _ c.self.inside.tables.items edits c.args.v c.args.deps.now c.self.invariant.kept
     ∙ rw (← c.self.view_is) refl

@@ -1,0 +1,249 @@
+-- A history of lines goes on where the lines do.
+use Rattle.std.proofs.Common.{◌≡◌, ℕ, ◌+◌, Bool, true, false, cond, List, [], ◌∷◌, ◌++◌, map, Option, Some, None, refl, sym, ap, subst, ◌∙◌, append_assoc, append-nil, arith}
+use Rattle.std.proofs.lemmas.List.{map-append}
+use Rattle.ely_script.specs.declared.outcome.Outcome.{Outcome}
+use Rattle.ely_script.specs.declared.outcome.Outcome.TheVariants as outcomes
+use Rattle.ely_script.specs.declared.word.CacheWord.{CacheWord}
+use Rattle.ely_script.specs.Lines.{ScriptLine}
+use Rattle.ely_script.specs.Outcomes.{is_accepted}
+use Rattle.ely_domain.specs.declared.event.Event.{Event}
+use Rattle.ely_domain.specs.Costs.{cost_from}
+use Rattle.ely_domain.specs.Given.{Given}
+use Rattle.ely_domain.specs.Headline.{IsHistoryOf}
+use Rattle.ely_domain.specs.Histories.{IsRun, machine_after}
+use Rattle.ely_domain.specs.Keeping.{Kept, word_due, stands_for, kept_after, first_kept}
+use Rattle.ely_domain.specs.Legal.{IsWhole}
+use Rattle.ely_domain.specs.Lines.{Taken, Ran, taken, after_first, after_event, carried_after, run_parts, ran, AreShown, kept_past}
+use Rattle.ely_domain.specs.Machine.{Machine, Stepped, first_machine, step}
+use Rattle.ely_domain.specs.Parts.{Part, actor_of, parts_of, event_of}
+use Rattle.ely_domain.specs.Replays.{Made, Told, made_by, told_by, made_of, steps_of, steps_told, kept_told, own_count, replayed_after, replayed}
+use Rattle.ely_domain.proofs.FileOrder.{ordered_from}
+use Rattle.ely_domain.proofs.GetsIn.{proved_in_runs, authorized_in_runs, established_in_runs, by_right_in_runs}
+use Rattle.ely_domain.proofs.Whole.{whole_next, whole_none}
+
+-- ---- what a line makes is a run
+
+pub run_of_parts : (given : Given) (m : Machine) (carried : Option ℕ) (ps : List Part)
+    → (let r = run_parts given m carried ps in IsRun given m r.0 × (machine_after given m r.0 ≡ r.1))
+unfolding run_parts
+run_of_parts given m carried [] = (tt, refl)
+run_of_parts given m carried (p ∷ ps) =
+    by_event (event_of p carried) (λ event. run_of_parts given (step given m event).1 (carried_after carried event (step given m event)) ps)
+  where
+    later : Machine → Option ℕ → Ran
+    later m' carried' = run_parts given m' carried' ps
+
+    by_event : (o : Option Event)
+        → ((event : Event) → (let r = run_parts given (step given m event).1 (carried_after carried event (step given m event)) ps in
+        IsRun given (step given m event).1 r.0 × (machine_after given (step given m event).1 r.0 ≡ r.1)))
+        → (let r = after_event given m carried (λ m' carried'. run_parts given m' carried' ps) o in IsRun given m r.0 × (machine_after given m r.0 ≡ r.1))
+    by_event None more = (tt, refl)
+    by_event (Some event) more = by (is_accepted (step given m event).0)
+      where
+        by : (b : Bool)
+            → (let r = after_first (taken given m event) (cond {A = Ran} b (run_parts given (step given m event).1 (carried_after carried event (step given m event)) ps) ([], (step given m event).1)) in
+            IsRun given m r.0 × (machine_after given m r.0 ≡ r.1))
+        by true = ((refl, (more event).0), (more event).1)
+        by false = ((refl, tt), refl)
+
+pub ran_is_run : (given : Given) (m : Machine) (line : ScriptLine) → (let r = ran given m line in IsRun given m r.0 × (machine_after given m r.0 ≡ r.1))
+ran_is_run given m line = run_of_parts given m None (parts_of line)
+
+IsRun-append : (given : Given) (m : Machine) (xs ys : List Taken) → IsRun given m xs → IsRun given (machine_after given m xs) ys → IsRun given m (xs ++ ys)
+IsRun-append given m [] ys one two = two
+IsRun-append given m (x ∷ xs) ys one two = (one.0, IsRun-append given (step given m x.event).1 xs ys one.1 two)
+
+steps_made : (actor n : ℕ) (ts : List Taken) → steps_of (map (made_by actor n) ts) ≡ ts
+steps_made actor n [] = refl
+steps_made actor n (t ∷ ts) = ap (λ xs. t ∷ xs) (steps_made actor n ts)
+
+replay_is_run : (given : Given) (m : Machine) (earlier lines : List ScriptLine) → IsRun given m (steps_of (replayed_after given m earlier lines))
+replay_is_run given m earlier [] = tt
+replay_is_run given m earlier (line ∷ lines) =
+    let r = ran given m line in
+    let one = ran_is_run given m line in
+    let n = own_count (actor_of line) earlier + 1 in
+    let both = IsRun-append given m r.0 (steps_of (replayed_after given r.1 (earlier ++ line ∷ []) lines)) one.0 (rw one.1 (replay_is_run given r.1 (earlier ++ line ∷ []) lines)) in
+    let joined : steps_of (map (made_by (actor_of line) n) r.0 ++ replayed_after given r.1 (earlier ++ line ∷ []) lines) ≡ r.0 ++ steps_of (replayed_after given r.1 (earlier ++ line ∷ []) lines) =
+    map-append (λ (x : Made). x.taken) _ _ ∙ ap (λ xs. xs ++ steps_of (replayed_after given r.1 (earlier ++ line ∷ []) lines)) (steps_made (actor_of line) n r.0) in
+    rw joined both
+
+-- ---- what a history is made of
+
+-- the steps of a history, told or not
+steps_told-is : (h : List Told) → steps_told h ≡ steps_of (made_of h)
+steps_told-is [] = refl
+steps_told-is (x ∷ xs) = ap (λ ts. x.made.taken ∷ ts) (steps_told-is xs)
+
+-- a whole history whose steps are those of the replay is the history of the lines
+history_of : (given : Given) (lines : List ScriptLine) (h : List Told) → IsWhole given lines h → made_of h ≡ replayed given lines → IsHistoryOf given lines h
+history_of given lines h whole fixed =
+    let steps : steps_told h ≡ steps_of (replayed given lines) = steps_told-is h ∙ ap steps_of fixed in
+    let run : IsRun given (first_machine given) (steps_told h) = rw steps (replay_is_run given (first_machine given) [] lines) in
+    record {
+      whole = whole;
+      in_file_order = rw fixed (ordered_from given lines lines [] (first_machine given) refl).0;
+      established = established_in_runs given (steps_told h) run;
+      proved = proved_in_runs given (steps_told h) run;
+      authorized = authorized_in_runs given (steps_told h) run;
+      by_right = by_right_in_runs given (steps_told h) run;
+      fixed = fixed;
+    }
+
+-- no lines have an empty history
+pub no_history : (given : Given) → IsHistoryOf given [] []
+no_history given = history_of given [] [] (whole_none given) refl
+
+-- ---- one more line
+
+-- what a line makes behind this history of the lines before it, with these words
+abbrev pub told_next : Given → List ScriptLine → List Told → ScriptLine → List CacheWord → List Told
+told_next given lines h line shown =
+    told_by (actor_of line) (own_count (actor_of line) lines + 1) (ran given (machine_after given (first_machine given) (steps_told h)) line).0 shown
+
+-- where words are shown behind all steps, the steps are all told
+told_all : (given : Given) (m : Machine) (k : Kept) (actor n : ℕ) (ts : List Taken) (shown : List CacheWord) → AreShown given m k ts shown
+    → made_of (told_by actor n ts shown) ≡ map (made_by actor n) ts
+told_all given m k actor n [] shown are = nothing shown
+  where
+    nothing : (ws : List CacheWord) → made_of (told_by actor n [] ws) ≡ []
+    nothing [] = refl
+    nothing (w ∷ ws) = refl
+told_all given m k actor n (t ∷ ts) [] are = absurd are
+told_all given m k actor n (t ∷ ts) (w ∷ ws) are =
+    ap (λ ms. made_by actor n t ∷ ms) (told_all given (step given m t.event).1 (kept_after given m k t.event t.outcome w) actor n ts ws are.1)
+
+pub steps_told-next : (given : Given) (m : Machine) (k : Kept) (actor n : ℕ) (ts : List Taken) (shown : List CacheWord) → AreShown given m k ts shown
+    → steps_told (told_by actor n ts shown) ≡ ts
+steps_told-next given m k actor n ts shown are =
+    steps_told-is (told_by actor n ts shown) ∙ ap steps_of (told_all given m k actor n ts shown are) ∙ steps_made actor n ts
+
+machine_after-append : (given : Given) (m : Machine) (xs ys : List Taken) → machine_after given m (xs ++ ys) ≡ machine_after given (machine_after given m xs) ys
+machine_after-append given m [] ys = refl
+machine_after-append given m (x ∷ xs) ys = machine_after-append given (step given m x.event).1 xs ys
+
+cost_from-append : (given : Given) (m : Machine) (xs ys : List Taken) → cost_from given m (xs ++ ys) ≡ cost_from given m xs + cost_from given (machine_after given m xs) ys
+cost_from-append given m [] ys = omega arith
+cost_from-append given m (x ∷ xs) ys = omega (arith, cost_from-append given (step given m x.event).1 xs ys)
+
+steps_told-append : (xs ys : List Told) → steps_told (xs ++ ys) ≡ steps_told xs ++ steps_told ys
+steps_told-append xs ys = map-append (λ (x : Told). x.made.taken) xs ys
+
+made_of-append : (xs ys : List Told) → made_of (xs ++ ys) ≡ made_of xs ++ made_of ys
+made_of-append xs ys = map-append (λ (x : Told). x.made) xs ys
+
+kept_told-append : (given : Given) (m : Machine) (k : Kept) (xs ys : List Told)
+    → kept_told given m k (xs ++ ys) ≡ kept_told given (machine_after given m (steps_told xs)) (kept_told given m k xs) ys
+kept_told-append given m k [] ys = refl
+kept_told-append given m k (x ∷ xs) ys =
+    kept_told-append given (step given m x.made.taken.event).1 (kept_after given m k x.made.taken.event x.made.taken.outcome x.shown) xs ys
+
+-- what a replay has with one more line
+replayed_push : (given : Given) (m : Machine) (earlier lines : List ScriptLine) (line : ScriptLine)
+    → replayed_after given m earlier (lines ++ line ∷ []) ≡ replayed_after given m earlier lines
+    ++ map (made_by (actor_of line) (own_count (actor_of line) (earlier ++ lines) + 1)) (ran given (machine_after given m (steps_of (replayed_after given m earlier lines))) line).0
+replayed_push given m earlier [] line =
+    append-nil _ ∙ ap (λ ls. map (made_by (actor_of line) (own_count (actor_of line) ls + 1)) (ran given m line).0) (sym (append-nil earlier))
+replayed_push given m earlier (x ∷ xs) line =
+    let r = ran given m x in
+    let here = map (made_by (actor_of x) (own_count (actor_of x) earlier + 1)) r.0 in
+    let later = replayed_after given r.1 (earlier ++ x ∷ []) xs in
+    let steps : steps_of (here ++ later) ≡ r.0 ++ steps_of later = map-append (λ (y : Made). y.taken) here later ∙ ap (λ ts. ts ++ steps_of later) (steps_made (actor_of x) (own_count (actor_of x) earlier + 1) r.0) in
+    let stands : machine_after given m (steps_of (here ++ later)) ≡ machine_after given r.1 (steps_of later) =
+    ap (machine_after given m) steps ∙ (machine_after-append given m r.0 (steps_of later) ∙ ap (λ (n : Machine). machine_after given n (steps_of later)) (ran_is_run given m x).1) in
+    ap (λ h. here ++ h) (replayed_push given r.1 (earlier ++ x ∷ []) xs line)
+    ∙ (sym (append_assoc here later _)
+    ∙ (ap (λ ls. (here ++ later) ++ map (made_by (actor_of line) (own_count (actor_of line) ls + 1)) (ran given (machine_after given r.1 (steps_of later)) line).0) (append_assoc earlier (x ∷ []) xs)
+    ∙ ap (λ (n : Machine). (here ++ later) ++ map (made_by (actor_of line) (own_count (actor_of line) (earlier ++ (x ∷ xs)) + 1)) (ran given n line).0) (sym stands)))
+
+-- a history goes on by what one more line makes, whatever words are shown that may be
+module _ (given : Given) (lines : List ScriptLine) (h : List Told) (line : ScriptLine) (shown : List CacheWord) where
+  abbrev m : Machine
+  m = machine_after given (first_machine given) (steps_told h)
+
+  abbrev k : Kept
+  k = kept_told given (first_machine given) (first_kept given) h
+
+  pub history_next : IsHistoryOf given lines h → AreShown given m k (ran given m line).0 shown
+      → IsHistoryOf given (lines ++ line ∷ []) (h ++ told_next given lines h line shown)
+  history_next is are =
+      let n = own_count (actor_of line) lines + 1 in
+      let same : steps_told h ≡ steps_of (replayed given lines) = steps_told-is h ∙ ap steps_of is.fixed in
+      history_of given (lines ++ line ∷ []) (h ++ told_next given lines h line shown) (whole_next given lines h line shown is.whole are)
+      (made_of-append h (told_next given lines h line shown)
+      ∙ ap (λ ms. made_of h ++ ms) (told_all given m k (actor_of line) n (ran given m line).0 shown are)
+      ∙ ap (λ (ts : List Taken). made_of h ++ map (made_by (actor_of line) n) (ran given (machine_after given (first_machine given) ts) line).0) same
+      ∙ ap (λ ms. ms ++ map (made_by (actor_of line) n) (ran given (machine_after given (first_machine given) (steps_of (replayed given lines))) line).0) is.fixed
+      ∙ sym (replayed_push given (first_machine given) [] lines line))
+
+  pub machine_next : AreShown given m k (ran given m line).0 shown
+      → machine_after given (first_machine given) (steps_told (h ++ told_next given lines h line shown)) ≡ (ran given m line).1
+  machine_next are =
+      ap (machine_after given (first_machine given)) (steps_told-append h (told_next given lines h line shown)
+      ∙ ap (λ ts. steps_told h ++ ts) (steps_told-next given m k (actor_of line) (own_count (actor_of line) lines + 1) (ran given m line).0 shown are))
+      ∙ machine_after-append given (first_machine given) (steps_told h) (ran given m line).0
+      ∙ (ran_is_run given m line).1
+
+  pub cost_next : AreShown given m k (ran given m line).0 shown
+      → cost_from given (first_machine given) (steps_told (h ++ told_next given lines h line shown))
+      ≡ cost_from given (first_machine given) (steps_told h) + cost_from given m (ran given m line).0
+  cost_next are =
+      ap (cost_from given (first_machine given)) (steps_told-append h (told_next given lines h line shown)
+      ∙ ap (λ ts. steps_told h ++ ts) (steps_told-next given m k (actor_of line) (own_count (actor_of line) lines + 1) (ran given m line).0 shown are))
+      ∙ cost_from-append given (first_machine given) (steps_told h) (ran given m line).0
+
+-- what is kept after what a line makes
+kept_line : (given : Given) (m : Machine) (k : Kept) (actor n : ℕ) (ts : List Taken) (shown : List CacheWord) → AreShown given m k ts shown
+    → kept_told given m k (told_by actor n ts shown) ≡ kept_past given m k ts shown
+kept_line given m k actor n [] shown are = nothing shown
+  where
+    nothing : (ws : List CacheWord) → kept_told given m k (told_by actor n [] ws) ≡ kept_past given m k [] ws
+    nothing [] = refl
+    nothing (w ∷ ws) = refl
+kept_line given m k actor n (t ∷ ts) [] are = absurd are
+kept_line given m k actor n (t ∷ ts) (w ∷ ws) are =
+    kept_line given (step given m t.event).1 (kept_after given m k t.event t.outcome w) actor n ts ws are.1
+
+pub kept_next : (given : Given) (lines : List ScriptLine) (h : List Told) (line : ScriptLine) (shown : List CacheWord)
+    → (let m = machine_after given (first_machine given) (steps_told h) in
+    let k = kept_told given (first_machine given) (first_kept given) h in
+    AreShown given m k (ran given m line).0 shown
+    → kept_told given (first_machine given) (first_kept given) (h ++ told_next given lines h line shown) ≡ kept_past given m k (ran given m line).0 shown)
+kept_next given lines h line shown are =
+    let m = machine_after given (first_machine given) (steps_told h) in
+    let k = kept_told given (first_machine given) (first_kept given) h in
+    kept_told-append given (first_machine given) (first_kept given) h (told_next given lines h line shown)
+    ∙ kept_line given m k (actor_of line) (own_count (actor_of line) lines + 1) (ran given m line).0 shown are
+
+-- ---- more lines
+
+-- a word that is due stands for itself
+due_stands : (given : Given) (m : Machine) (k : Kept) (event : Event) (outcome : Outcome)
+    → stands_for (word_due given m k event outcome) ≡ word_due given m k event outcome
+due_stands given m k event = elim [ outcomes.Pinned version ↦ refl | outcomes.Named ↦ refl | outcomes.Challenge text ↦ refl | _ ↦ refl ]
+
+-- the words that are due behind steps
+abbrev pub words_due : Given → Machine → Kept → List Taken → List CacheWord
+words_due given m k [] = []
+words_due given m k (t ∷ ts) =
+    let w = word_due given m k t.event t.outcome in
+    w ∷ words_due given (step given m t.event).1 (kept_after given m k t.event t.outcome w) ts
+
+due_are_shown : (given : Given) (m : Machine) (k : Kept) (ts : List Taken) → AreShown given m k ts (words_due given m k ts)
+due_are_shown given m k [] = tt
+due_are_shown given m k (t ∷ ts) =
+    (due_stands given m k t.event t.outcome, due_are_shown given (step given m t.event).1 (kept_after given m k t.event t.outcome (word_due given m k t.event t.outcome)) ts)
+
+-- a history of lines is the front of one of more lines
+pub history_on : (given : Given) (rest lines : List ScriptLine) (h : List Told) → IsHistoryOf given lines h → (more : List Told) × IsHistoryOf given (lines ++ rest) (h ++ more)
+history_on given [] lines h is = ([], subst (λ ls. IsHistoryOf given ls (h ++ [])) (sym (append-nil lines)) (subst (IsHistoryOf given lines) (sym (append-nil h)) is))
+history_on given (line ∷ rest) lines h is =
+    let m = machine_after given (first_machine given) (steps_told h) in
+    let k = kept_told given (first_machine given) (first_kept given) h in
+    let words = words_due given m k (ran given m line).0 in
+    let next = told_next given lines h line words in
+    let later = history_on given rest (lines ++ line ∷ []) (h ++ next) (history_next given lines h line words is (due_are_shown given m k (ran given m line).0)) in (
+      next ++ later.0,
+      subst (λ ls. IsHistoryOf given ls (h ++ (next ++ later.0))) (append_assoc lines (line ∷ []) rest)
+          (subst (IsHistoryOf given ((lines ++ line ∷ []) ++ rest)) (append_assoc h next later.0) later.1),
+    )

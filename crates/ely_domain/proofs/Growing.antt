@@ -1,0 +1,80 @@
+-- What a further edit leaves as it was.
+use Rattle.std.proofs.Common.{◌≡◌, ℕ, ◌≤◌, List, [], ◌∷◌, ◌++◌, length, Option, Some, refl, sym, ap, ◌∙◌, arith}
+use Rattle.std.specs.Option.{option_and_then}
+use Rattle.std.proofs.lemmas.List.{take-append-le, length-append}
+use Rattle.ely_row.specs.declared.edit.Edit.{Edit}
+use Rattle.ely_row.specs.declared.mech.Mech.{Mech}
+use Rattle.ely_row.specs.declared.place.Place.{Place}
+use Rattle.ely_row.specs.Edits.{row}
+use Rattle.ely_table.specs.Faults.{texts_of}
+use Rattle.ely_cred.specs.Keys.{ready_of}
+use Rattle.ely_context.specs.declared.pin.Pin.{Pin}
+use Rattle.ely_context.specs.declared.stage.Stage.TheVariants.{Fresh, Loading, Named, Checking, Proved, Authorized, Complete, Failed}
+use Rattle.ely_context.specs.Contexts.{ContextStage, ContextLogin}
+use Rattle.ely_domain.specs.declared.prepared.Prepared.{Prepared}
+use Rattle.ely_domain.specs.Contexts.{IsPin, HoldsIts, HasHandout, IsSound, pinned, prepared_for}
+use Rattle.ely_domain.specs.Identities.{Known, ident, key_at, roles_in, roles}
+use Rattle.ely_domain.specs.Given.{realms, role_attribute}
+
+-- what is known after one more edit
+abbrev pub more : Known → Edit → Known
+more known e = record { given = known.given; edits = known.edits ++ e ∷ [] }
+
+-- the identity at a version stays, and so do its key and its roles
+pub ident_stays : (known : Known) (e : Edit) (version : ℕ) (place : Place) → version ≤ length known.edits
+    → ident (more known e) version place ≡ ident known version place
+unfolding ident
+ident_stays known e version place past =
+    ap (λ es. row (texts_of (realms known.given)) es place.realm place.name) (take-append-le version known.edits (e ∷ []) past)
+
+pub key_stays : (known : Known) (e : Edit) (mech : Mech) (version : ℕ) (place : Place) → version ≤ length known.edits
+    → key_at (more known e) mech version place ≡ key_at known mech version place
+unfolding key_at
+key_stays known e mech version place past =
+    ap (option_and_then (ready_of known.given.config.params place.realm place.name mech)) (ident_stays known e version place past)
+
+pub roles_stay : (known : Known) (e : Edit) (version : ℕ) (place : Place) → version ≤ length known.edits
+    → roles (more known e) version place ≡ roles known version place
+roles_stay known e version place past =
+    ap (roles_in (role_attribute known.given place.realm)) (ident_stays known e version place past)
+
+-- a pin stays one
+pin_stays : (known : Known) (e : Edit) (mech : Mech) (p : Pin) → IsPin known mech p → IsPin (more known e) mech p
+pin_stays known e mech p is = record {
+  past = omega (arith, is.past, length-append known.edits (e ∷ []));
+  row_is = ident_stays known e p.version p.place is.past ∙ is.row_is;
+  serves = is.serves;
+  form = is.form;
+}
+
+holds_stay : (known : Known) (e : Edit) (mech : Mech) (stage : ContextStage) → HoldsIts known mech stage → HoldsIts (more known e) mech stage
+holds_stay known e mech Fresh holds = tt
+holds_stay known e mech (Loading p) holds = pin_stays known e mech p holds
+holds_stay known e mech (Named p key) holds =
+    (pin_stays known e mech p holds.0, key_stays known e mech p.version p.place holds.0.past ∙ holds.1)
+holds_stay known e mech (Checking p key evidence) holds =
+    (pin_stays known e mech p holds.0, key_stays known e mech p.version p.place holds.0.past ∙ holds.1, holds.2)
+holds_stay known e mech (Proved p) holds = pin_stays known e mech p holds
+holds_stay known e mech (Authorized p) holds = pin_stays known e mech p holds
+holds_stay known e mech (Complete p) holds = pin_stays known e mech p holds
+holds_stay known e mech Failed holds = tt
+
+handout_stays : (known : Known) (e : Edit) (mech : Mech) (prepared : Option Prepared) (stage : ContextStage)
+    → HoldsIts known mech stage → HasHandout known prepared stage → HasHandout (more known e) prepared stage
+handout_stays known e mech prepared Fresh holds has = tt
+handout_stays known e mech prepared (Loading p) holds has = tt
+handout_stays known e mech prepared (Named p key) holds has = tt
+handout_stays known e mech prepared (Checking p key evidence) holds has = tt
+handout_stays known e mech prepared (Proved p) holds has = tt
+handout_stays known e mech prepared (Authorized p) holds has =
+    has ∙ ap (λ found. Some (let r : Prepared = record { version = p.version; place = p.place; roles = found } in r))
+    (sym (roles_stay known e p.version p.place holds.past))
+handout_stays known e mech prepared (Complete p) holds has = tt
+handout_stays known e mech prepared Failed holds has = tt
+
+-- logins stay sound
+pub sound_stays : (known : Known) (e : Edit) (logins : List (ℕ × ContextLogin)) (prepared : List (ℕ × Prepared))
+    → IsSound known logins prepared → IsSound (more known e) logins prepared
+sound_stays known e logins prepared sound c login found =
+    let was = sound c login found in
+    (holds_stay known e login.mech login.stage was.0, handout_stays known e login.mech _ login.stage was.0 was.1)

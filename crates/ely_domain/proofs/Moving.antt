@@ -1,0 +1,115 @@
+-- A step of one login, as a step among all of them.
+use Rattle.std.proofs.Common.{◌≡◌, ℕ, Bool, true, false, cond, eqb, List, [], ◌∷◌, Option, Some, None, Ok, Err, Result, refl, sym, ap, subst, ◌∙◌, eqb-true}
+use Rattle.std.specs.Prelude.{◌==◌, OnErr, IfOk}
+use Rattle.std.specs.Option.{option_map}
+use Rattle.std.proofs.lemmas.Option.{same_Some}
+use Rattle.ely_script.specs.declared.outcome.Outcome.{Outcome}
+use Rattle.ely_script.specs.declared.outcome.Outcome.TheVariants as outcomes
+use Rattle.ely_context.specs.Contexts.{ContextLogin}
+use Rattle.ely_context.specs.Stages.{at_stage, state_of}
+use Rattle.ely_context.specs.Logins.{login_of, with_login, without_login, each_login, AreRising}
+use Rattle.ely_context.proofs.LoginLemmas.{login_of-each_login, login_of-with_login, login_of-without_login, with_login-each_login, without_login-each_login, with_login-same}
+use Rattle.ely_context.proofs.StageLemmas.{state-view}
+use Rattle.ely_domain.specs.declared.event.Event.{Event}
+use Rattle.ely_domain.specs.declared.prepared.Prepared.{Prepared}
+use Rattle.ely_domain.specs.Contexts.{pinned, seen_login, seen_live, IsSound, IsSoundAt, IsReply, Answers, AnswersBy}
+use Rattle.ely_domain.specs.Costs.{cost_for, login_cost, RoseBy}
+use Rattle.ely_domain.specs.Identities.{Known}
+use Rattle.ely_domain.specs.Logins.{KnownLogin, Live}
+use Rattle.ely_domain.specs.Machine.{Answered, answered, answered_for, carried_out, put_login}
+use Rattle.ely_domain.specs.Steps.{Reply, NotDue, Stays, Moves, reply, carried, is_carried, not_due, not_there}
+
+module _ (known : Known) (logins : List (ℕ × ContextLogin)) (event : Event) (id : ℕ) where
+  -- a step of a login that isn't there
+  pub none_answered : None ≡ login_of logins id
+      → answered known (seen_live logins) event id ≡ record { outcome = not_there event; live = seen_live logins }
+  unfolding answered
+  none_answered none =
+      ap (answered_for known (seen_live logins) event id) (login_of-each_login seen_login logins id ∙ ap (option_map seen_login) (sym none))
+
+  -- the list where the login is put that a step left
+  unchanged : (old new : ContextLogin) → AreRising logins → login_of logins id ≡ Some old → new ≡ old
+      → seen_live logins ≡ seen_live (with_login logins id new)
+  unchanged old new rising found same =
+      ap seen_live (sym (with_login-same logins id old rising found) ∙ ap (with_login logins id) (sym same))
+
+  -- a reply that is carried out on what is seen
+  replied : (old new : ContextLogin) (outcome : Outcome) (r : Reply) → AreRising logins → login_of logins id ≡ Some old
+      → IsReply r (not_due event) old outcome new
+      → carried_out (seen_live logins) event id (seen_login old) r ≡ record { outcome = outcome; live = seen_live (with_login logins id new) }
+  replied old new outcome NotDue rising found is =
+      rw (is.0, ← unchanged old new rising found is.1)
+      (ap (λ s. (let a : Answered = record { outcome = not_due event s; live = seen_live logins } in a)) (state-view pinned (λ key. tt) old.stage))
+  replied old new outcome (Stays said) rising found is = rw (is.0, ← unchanged old new rising found is.1) refl
+  replied old new outcome (Moves said stage) rising found is =
+      rw is.0 (ap (λ ls. (let a : Answered = record { outcome = said; live = record { logins = ls } } in a))
+      (ap (with_login (each_login seen_login logins) id) (sym is.1) ∙ with_login-each_login seen_login logins id new))
+
+  -- a step of a login that was found
+  pub found_answered : (old new : ContextLogin) (outcome : Outcome) → AreRising logins → login_of logins id ≡ Some old
+      → Answers known event old outcome new
+      → answered known (seen_live logins) event id ≡ record { outcome = outcome; live = seen_live (with_login logins id new) }
+  unfolding answered
+  found_answered old new outcome rising found answers =
+      ap (answered_for known (seen_live logins) event id) (login_of-each_login seen_login logins id ∙ ap (option_map seen_login) found)
+      ∙ by (is_carried (carried event) old.serial) answers
+    where
+      by : (b : Bool) → AnswersBy b known event old outcome new
+          → cond {A = Answered} b (carried_out (seen_live logins) event id (seen_login old) (reply known (seen_login old) event)) (record { outcome = outcomes.Gone; live = seen_live logins })
+          ≡ record { outcome = outcome; live = seen_live (with_login logins id new) }
+      by true is = replied old new outcome (reply known (seen_login old) event) rising found is
+      by false is = rw (is.0, ← unchanged old new rising found is.1) refl
+
+  -- the same of an answer that may want memory
+  pub found_all : {E : Type 0} (old new : ContextLogin) (result : Result Outcome E) → AreRising logins → login_of logins id ≡ Some old
+      → IfOk result (λ outcome. Answers known event old outcome new)
+      → IfOk result (λ outcome. answered known (seen_live logins) event id ≡ record { outcome = outcome; live = seen_live (with_login logins id new) })
+  found_all old new (Ok outcome) rising found answers = found_answered old new outcome rising found answers
+  found_all old new (Err e) rising found answers = answers
+
+  -- what it costs
+  pub found_cost : (old : ContextLogin) (before after : ℕ) → login_of logins id ≡ Some old
+      → RoseBy before after (cost_for known event (Some (seen_login old)))
+      → RoseBy before after (login_cost known (seen_live logins) event id)
+  found_cost old before after found rose =
+      rw (login_of-each_login seen_login logins id, found) rose
+
+-- every login stays sound where one moves
+module _ (known : Known) (logins : List (ℕ × ContextLogin)) (prepared prepared' : List (ℕ × Prepared)) (id : ℕ) (new : ContextLogin)
+    (sound : IsSound known logins prepared) (others : (c : ℕ) → (c == id) ≡ false → login_of prepared' c ≡ login_of prepared c) where
+  pub moved_stays : IsSoundAt known (login_of prepared' id) new → IsSound known (with_login logins id new) prepared'
+  moved_stays is c login found = by (eqb c id) refl
+    where
+      by : (b : Bool) → eqb c id ≡ b → IsSoundAt known (login_of prepared' c) login
+      by true e =
+          let here : new ≡ login = same_Some _ _ (sym (login_of-with_login logins id new c ∙ ap (λ b. cond b (Some new) (login_of logins c)) e) ∙ found) in
+          rw (eqb-true c id e, ← here) is
+      by false e =
+          let there : login_of logins c ≡ Some login = sym (login_of-with_login logins id new c ∙ ap (λ b. cond b (Some new) (login_of logins c)) e) ∙ found in
+          rw (others c e) (sound c login there)
+
+-- and where one is taken away
+pub closed_stays : (known : Known) (logins : List (ℕ × ContextLogin)) (prepared : List (ℕ × Prepared)) (id : ℕ)
+    → IsSound known logins prepared → IsSound known (without_login logins id) (without_login prepared id)
+closed_stays known logins prepared id sound c login found = by (eqb c id) refl
+  where
+    by : (b : Bool) → eqb c id ≡ b → IsSoundAt known (login_of (without_login prepared id) c) login
+    by true e = absurd (true_is_none (sym (login_of-without_login logins id c ∙ ap (λ b. cond b None (login_of logins c)) e) ∙ found))
+      where
+        true_is_none : None ≡ Some login → ⊥
+        true_is_none h = cc
+    by false e =
+        let there : login_of logins c ≡ Some login = sym (login_of-without_login logins id c ∙ ap (λ b. cond b None (login_of logins c)) e) ∙ found in
+        rw (login_of-without_login prepared id c, e) (sound c login there)
+
+-- what a refused step leaves is what was there
+pub kept_both : {A E : Type 0} (result : Result A E) (logins : List (ℕ × ContextLogin)) (prepared prepared' : List (ℕ × Prepared)) (id : ℕ) (old new : ContextLogin)
+    → AreRising logins → login_of logins id ≡ Some old → OnErr result ((new ≡ old) × (prepared' ≡ prepared))
+    → OnErr result ((with_login logins id new ≡ logins) × (prepared' ≡ prepared))
+kept_both (Ok x) logins prepared prepared' id old new rising found same = same
+kept_both (Err e) logins prepared prepared' id old new rising found same =
+    (ap (with_login logins id) same.0 ∙ with_login-same logins id old rising found, same.1)
+
+-- no logins are sound
+pub nothing_sound : (known : Known) (logins : List (ℕ × ContextLogin)) (prepared : List (ℕ × Prepared)) → logins ≡ [] → IsSound known logins prepared
+nothing_sound known logins prepared none = subst (λ ls. IsSound known ls prepared) (sym none) (λ c login found. cc)

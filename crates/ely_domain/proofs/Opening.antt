@@ -1,0 +1,80 @@
+-- Logins that are opened, and that are closed.
+use Rattle.std.proofs.Common.{◌≡◌, ℕ, ◌+◌, ◌<◌, ◌≤◌, Bool, true, false, cond, leb, List, length, map, Option, Some, None, refl, sym, ap, ◌∙◌, arith}
+use Rattle.std.proofs.lemmas.Bool.Decides.{nat_tests}
+use Rattle.std.proofs.lemmas.List.{length-map}
+use Rattle.std.specs.Prelude.{is_some}
+use Rattle.std.specs.Option.{option_map}
+use Rattle.ely_row.specs.declared.edit.Edit.{Edit}
+use Rattle.ely_row.specs.declared.mech.Mech.{Mech}
+use Rattle.ely_script.specs.declared.outcome.Outcome.{Outcome}
+use Rattle.ely_script.specs.declared.outcome.Outcome.TheVariants as outcomes
+use Rattle.ely_script.specs.declared.word.StateWord.TheVariants as states
+use Rattle.ely_context.specs.Contexts.{ContextLogin}
+use Rattle.ely_context.specs.ContextTable as table
+use Rattle.ely_context.specs.Logins.{login_of, with_login, without_login, each_login}
+use Rattle.ely_context.proofs.LoginLemmas.{login_of-each_login, with_login-each_login, without_login-each_login}
+use Rattle.ely_domain.specs.Contexts.{seen_login, seen_live}
+use Rattle.ely_domain.specs.Given.{Given, nonce_of}
+use Rattle.ely_domain.specs.Logins.{KnownLogin}
+use Rattle.ely_domain.specs.Machine.{Machine, Stepped, Answered, begin, opened_or, opened_login, opening_fault, closed, with_answered}
+
+-- whether something is there is the same of what is seen of it
+pub is_some-map : {A B : Type 0} (f : A → B) (o : Option A) → is_some (option_map f o) ≡ is_some o
+is_some-map f None = refl
+is_some-map f (Some x) = refl
+
+module _ (logins : List (ℕ × ContextLogin)) (id : ℕ) where
+  entry_seen : ℕ × ContextLogin → ℕ × KnownLogin
+  entry_seen entry = (entry.0, seen_login entry.1)
+
+  seen_count : length (each_login seen_login logins) ≡ length logins
+  unfolding entry_seen
+  seen_count = length-map logins entry_seen
+
+  there_seen : is_some (login_of (seen_live logins).logins id) ≡ is_some (login_of logins id)
+  there_seen = ap is_some (login_of-each_login seen_login logins id) ∙ is_some-map seen_login (login_of logins id)
+
+  -- why no login can be opened, by what is found and counted
+  pub in_use : is_some (login_of logins id) ≡ true → Some outcomes.InUse ≡ opening_fault (seen_live logins) id
+  in_use there = rw (there_seen, there) refl
+
+  pub all_in_use : is_some (login_of logins id) ≡ false → 4096 ≤ length logins → Some outcomes.ContextsFull ≡ opening_fault (seen_live logins) id
+  all_in_use absent many =
+      let full : leb 4096 (length (each_login seen_login logins)) ≡ true = grind (arith, nat_tests, seen_count) in
+      rw (there_seen, absent, full) refl
+
+  pub has_room : is_some (login_of logins id) ≡ false → length logins < 4096 → None ≡ opening_fault (seen_live logins) id
+  has_room absent few =
+      let room : leb 4096 (length (each_login seen_login logins)) ≡ false = grind (arith, nat_tests, seen_count) in
+      rw (there_seen, absent, room) refl
+
+  -- where nothing stands against it, no login is there
+  pub none_there : opening_fault (seen_live logins) id ≡ None → login_of logins id ≡ None
+  none_there none = by (login_of logins id) refl
+    where
+      some_is_none : ◌≡◌ {A = Option Outcome} (Some outcomes.InUse) None → ⊥
+      some_is_none h = cc
+
+      by : (o : Option ContextLogin) → login_of logins id ≡ o → o ≡ None
+      by None is = refl
+      by (Some login) is = absurd (some_is_none (in_use (ap is_some is) ∙ none))
+
+  -- a login that is opened
+  pub begun : (given : Given) (edits : List Edit) (opened : ℕ) (mech : Mech) (brought : Option (List ℕ)) (nonce : List ℕ)
+      → nonce ≡ nonce_of given mech (opened + 1) brought → opening_fault (seen_live logins) id ≡ None
+      → (let m : Machine = record { edits = edits; live = seen_live logins; opened = opened } in
+      let s : Stepped = (outcomes.Opened (opened + 1) None, record { edits = edits; live = seen_live (with_login logins id (table.begin (opened + 1) mech nonce)); opened = opened + 1 }) in
+      s ≡ begin given m id mech brought)
+  begun given edits opened mech brought nonce nonce_is none =
+      rw (none, nonce_is) (ap (λ ls. (let s : Stepped = (outcomes.Opened (opened + 1) None, record { edits = edits; live = record { logins = ls }; opened = opened + 1 }) in s))
+      (sym (with_login-each_login seen_login logins id (table.begin (opened + 1) mech (nonce_of given mech (opened + 1) brought)))))
+
+  -- a login that is closed
+  pub closed_is : (edits : List Edit) (opened : ℕ) (there : Bool) (outcome : Outcome)
+      → there ≡ is_some (login_of logins id) → outcome ≡ cond there outcomes.Fine (outcomes.State states.Absent)
+      → (let m : Machine = record { edits = edits; live = seen_live logins; opened = opened } in
+      let s : Stepped = (outcome, record { edits = edits; live = seen_live (without_login logins id); opened = opened }) in
+      s ≡ with_answered m (closed (seen_live logins) id))
+  unfolding closed
+  closed_is edits opened there outcome there_is outcome_is =
+      rw (there_seen, ← there_is, outcome_is, without_login-each_login seen_login logins id) refl

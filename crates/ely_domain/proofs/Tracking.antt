@@ -1,0 +1,359 @@
+-- What a login's own steps say of it follows it through the machine: how far it has come, what it pinned, and what it showed.
+use Rattle.std.proofs.Common.{◌≡◌, ℕ, ◌+◌, ◌≤◌, Bool, true, false, not, cond, eqb, List, [], ◌∷◌, ◌++◌, length, Option, Some, None, Result, Ok, Err, refl, sym, ap, subst, ◌∙◌, arith}
+use Rattle.std.specs.List.{list_any}
+use Rattle.std.specs.Option.{option_map, option_or, ok_or}
+use Rattle.std.proofs.lemmas.Option.{same_Some}
+use Rattle.std.proofs.lemmas.List.Folds.{list_any-append}
+use Rattle.ely_base.specs.Refused.{◌>>=◌, refused_as}
+use Rattle.ely_row.specs.declared.cred.Credential.{Credential}
+use Rattle.ely_row.specs.declared.edit.Edit.{Edit}
+use Rattle.ely_row.specs.declared.mech.Mech.{Mech}
+use Rattle.ely_row.specs.declared.place.PipeFault.{PipeFault}
+use Rattle.ely_row.specs.declared.place.Place.{Place}
+use Rattle.ely_row.specs.Rows.{Row}
+use Rattle.ely_cred.specs.Keys.{Ready, chosen}
+use Rattle.ely_script.specs.declared.claim.Claim.{Claim}
+use Rattle.ely_script.specs.declared.claim.Evidence.{Evidence}
+use Rattle.ely_script.specs.declared.claim.Evidence.TheVariants as evidences
+use Rattle.ely_script.specs.declared.outcome.Outcome.{Outcome}
+use Rattle.ely_script.specs.declared.outcome.Outcome.TheVariants as outcomes
+use Rattle.ely_script.specs.declared.word.StepWord.{StepWord}
+use Rattle.ely_script.specs.declared.word.StepWord.TheVariants as words
+use Rattle.ely_script.specs.Outcomes.{is_accepted}
+use Rattle.ely_script.specs.Words.{same_word}
+use Rattle.ely_context.specs.declared.stage.Stage.TheVariants.{Fresh, Loading, Named, Checking, Proved, Authorized, Complete, Failed}
+use Rattle.ely_context.specs.Stages.{at_stage}
+use Rattle.ely_domain.specs.declared.event.Event.{Event}
+use Rattle.ely_domain.specs.declared.event.Event.TheVariants as events
+use Rattle.ely_domain.specs.Events.{word_of}
+use Rattle.ely_domain.specs.Given.{Given, place_of}
+use Rattle.ely_domain.specs.Histories.{is_end, is_ready_since, needed}
+use Rattle.ely_domain.specs.Identities.{Known, ident, key_at, grants, to_log_in}
+use Rattle.ely_domain.specs.Logins.{Pinned, KnownStage, KnownLogin}
+use Rattle.ely_domain.specs.Steps.{Reply, NotDue, Stays, Moves, claimed_name, is_other, is_claim_of, is_evidence_of, serving, naming, require, pinned_or, name1, name2, check1, check2, authorize, allows, succeed, fail, reply}
+use Rattle.ely_domain.specs.Verdicts.{is_proof_of, verdict}
+use Rattle.ely_domain.specs.WhoGetsIn.{Said, mech_opened, pinned_by, place_claimed, place_or_none, evidence_shown, is_shown, has_shown, is_granted}
+use Rattle.ely_domain.proofs.WordLists.{next, IsAt, moved_on, ended}
+
+-- the words since the open fit the stage
+abbrev pub FitsStage : KnownStage → List StepWord → Type 0
+FitsStage Fresh rest = IsAt rest (words.Name1 ∷ words.Name2 ∷ words.Check1 ∷ words.Check2 ∷ words.Authorize ∷ [])
+FitsStage (Loading p) rest = IsAt rest (words.Name2 ∷ words.Check1 ∷ words.Check2 ∷ words.Authorize ∷ [])
+FitsStage (Named p k) rest = IsAt rest (words.Check1 ∷ words.Check2 ∷ words.Authorize ∷ [])
+FitsStage (Checking p k e) rest = IsAt rest (words.Check2 ∷ words.Authorize ∷ [])
+FitsStage (Proved p) rest = IsAt rest (words.Authorize ∷ [])
+FitsStage (Authorized p) rest = IsAt rest []
+FitsStage (Complete p) rest = list_any is_end rest ≡ true
+FitsStage Failed rest = is_ready_since (Some rest) ≡ false
+
+-- a live login was opened, and its stage fits; one that isn't live was never opened, or was ended
+abbrev pub Fits : Option KnownLogin → Option (List StepWord) → Type 0
+Fits None None = Unit {0}
+Fits None (Some rest) = list_any is_end rest ≡ true
+Fits (Some login) None = ⊥
+Fits (Some login) (Some rest) = FitsStage login.stage rest
+
+-- what was said last of a pin is that pin, and it is of a version that was
+pub record IsPinSaid (known : Known) (p : Pinned) (said : Said) : Type 0 where
+  pub pin : said.pin ≡ Some p
+  pub past : p.version ≤ length known.edits
+
+-- what a stage holds is what was said last; whoever is proved has shown it, and whoever is authorized may log in
+abbrev pub HoldsSaid : Known → Said → KnownStage → Type 0
+HoldsSaid known said Fresh = Unit {0}
+HoldsSaid known said (Loading p) = IsPinSaid known p said
+HoldsSaid known said (Named p k) = IsPinSaid known p said
+HoldsSaid known said (Checking p k e) = IsPinSaid known p said × (said.evidence ≡ Some e)
+HoldsSaid known said (Proved p) = IsPinSaid known p said × (has_shown known said ≡ true)
+HoldsSaid known said (Authorized p) =
+    IsPinSaid known p said × (has_shown known said ≡ true) × (is_granted known said.pin ≡ true)
+HoldsSaid known said (Complete p) =
+    IsPinSaid known p said × (has_shown known said ≡ true) × (is_granted known said.pin ≡ true)
+HoldsSaid known said Failed = Unit {0}
+
+-- the same of a login that may not be there
+abbrev pub IsSaid : Known → Said → Option KnownLogin → Type 0
+IsSaid known said None = Unit {0}
+IsSaid known said (Some login) = (said.mech ≡ Some login.mech) × HoldsSaid known said login.stage
+
+-- both
+pub record IsTracked (known : Known) (found : Option KnownLogin) (rest : Option (List StepWord)) (said : Said) : Type 0 where
+  pub fits : Fits found rest
+  pub is_said : IsSaid known said found
+
+-- what is said after a step of the login
+abbrev pub said_next : Given → Said → Event → Outcome → Said
+said_next given said event outcome = record {
+  mech = option_or (mech_opened event outcome) said.mech;
+  pin = option_or (pinned_by given event outcome) said.pin;
+  evidence = option_or (evidence_shown event outcome) said.evidence;
+}
+
+-- the word of a step, where it is accepted
+abbrev pub word_if : Event → Outcome → Option StepWord
+word_if event outcome = cond (is_accepted outcome) (Some (word_of event)) None
+
+-- nothing pins where it is refused
+pub refused_pins_nothing : (given : Given) (event : Event) (outcome : Outcome) → is_accepted outcome ≡ false → pinned_by given event outcome ≡ None
+refused_pins_nothing given event = elim [ outcomes.Pinned version ↦ (λ h. cc) | _ ↦ (λ h. refl) ]
+
+-- where something is still needed, the login isn't ready
+pub not_ready : {rest : List StepWord} {w : StepWord} {ws : List StepWord} → IsAt rest (w ∷ ws) → is_ready_since (Some rest) ≡ false
+not_ready at = rw (at.going, at.need) refl
+
+-- what ended stays ended
+still_ended : (rest : List StepWord) (w : StepWord) → list_any is_end rest ≡ true → list_any is_end (rest ++ w ∷ []) ≡ true
+still_ended rest w h = list_any-append is_end rest (w ∷ []) ∙ rw h refl
+
+-- what a naming pins, and that what stands against it is a refusal
+module _ (known : Known) (mech : Mech) (claim : Claim) where
+  -- what is pinned of an identity that serves
+  abbrev after_serving : Place → Result Row Outcome → Result Pinned Outcome
+  after_serving place o = o >>= λ identity. Ok (record { version = length known.edits; place = place; claim = claim })
+
+  -- what the tests of a naming come to
+  abbrev after_tests : Bool → Bool → Result Place PipeFault → (Place → Result Row Outcome) → Result Pinned Outcome
+  after_tests form own place serves =
+      require form (outcomes.Mechanism mech) >>= λ _. require (not own) outcomes.Authzid >>= λ _.
+      refused_as outcomes.Pipe place >>= λ p. serves p >>= λ identity.
+      Ok (record { version = length known.edits; place = p; claim = claim })
+
+  same_Ok : {A F : Type 0} (x y : A) → ◌≡◌ {A = Result A F} (Ok x) (Ok y) → x ≡ y
+  same_Ok x y h = cc
+
+  same_Err : {A F : Type 0} (x y : F) → ◌≡◌ {A = Result A F} (Err x) (Err y) → x ≡ y
+  same_Err x y h = cc
+
+  pub naming_pins : (pin : Pinned) → naming known mech claim ≡ Ok pin
+      → (pin ≡ record { version = length known.edits; place = pin.place; claim = claim }) × (place_of known.given (claimed_name claim) ≡ Ok pin.place)
+  unfolding naming
+  naming_pins pin is = by (is_claim_of mech claim) (is_other claim) (place_of known.given (claimed_name claim)) (serving known mech) is
+    where
+      by_serving : (place : Place) (o : Result Row Outcome)
+          → after_serving place o ≡ Ok pin
+          → (pin ≡ record { version = length known.edits; place = pin.place; claim = claim }) × (◌≡◌ {A = Result Place PipeFault} (Ok place) (Ok pin.place))
+      by_serving place (Ok identity) h =
+          let here : pin ≡ record { version = length known.edits; place = place; claim = claim } = sym (same_Ok _ pin h) in
+          (rw here refl, rw here refl)
+      by_serving place (Err refusal) h = cc
+
+      by : (form own : Bool) (place : Result Place PipeFault) (serves : Place → Result Row Outcome) → after_tests form own place serves ≡ Ok pin
+          → (pin ≡ record { version = length known.edits; place = pin.place; claim = claim }) × (place ≡ Ok pin.place)
+      by true false (Ok place) serves h = by_serving place (serves place) h
+      by true false (Err fault) serves h = cc
+      by true true place serves h = cc
+      by false own place serves h = cc
+
+  serving_refuses : (place : Place) (refusal : Outcome) → serving known mech place ≡ Err refusal → is_accepted refusal ≡ false
+  unfolding serving
+  serving_refuses place refusal is = by (ident known (length known.edits) place) is
+    where
+      by_chosen : (identity : Row) (o : Option (ℕ × Credential)) → ◌≡◌ {A = Result Row Outcome} (ok_or o outcomes.NoCredential >>= λ c. Ok identity) (Err refusal) → is_accepted refusal ≡ false
+      by_chosen identity None h = rw (← same_Err outcomes.NoCredential refusal h) refl
+      by_chosen identity (Some c) h = cc
+
+      by : (o : Option Row) → ◌≡◌ {A = Result Row Outcome} (ok_or o outcomes.Unknown >>= λ identity. ok_or (chosen mech identity) outcomes.NoCredential >>= λ c. Ok identity) (Err refusal) → is_accepted refusal ≡ false
+      by None h = rw (← same_Err outcomes.Unknown refusal h) refl
+      by (Some identity) h = by_chosen identity (chosen mech identity) h
+
+  pub naming_refuses : (refusal : Outcome) → naming known mech claim ≡ Err refusal → is_accepted refusal ≡ false
+  unfolding naming
+  naming_refuses refusal is = by (is_claim_of mech claim) (is_other claim) (place_of known.given (claimed_name claim)) is
+    where
+      by_serving : (place : Place) (o : Result Row Outcome) → serving known mech place ≡ o
+          → after_serving place o ≡ Err refusal → is_accepted refusal ≡ false
+      by_serving place (Ok identity) e h = cc
+      by_serving place (Err other) e h = rw (← same_Err other refusal h) (serving_refuses place other e)
+
+      by : (form own : Bool) (place : Result Place PipeFault) → after_tests form own place (serving known mech) ≡ Err refusal → is_accepted refusal ≡ false
+      by true false (Ok place) h = by_serving place (serving known mech place) refl h
+      by true false (Err fault) h = rw (← same_Err (outcomes.Pipe fault) refusal h) refl
+      by true true place h = rw (← same_Err outcomes.Authzid refusal h) refl
+      by false own place h = rw (← same_Err (outcomes.Mechanism mech) refusal h) refl
+
+-- ---- one step of a login, by what it is
+
+-- what a step whose reply is this makes of a tracked login
+abbrev pub Tracks : Known → KnownLogin → Option (List StepWord) → Said → Event → Reply → Type 0
+Tracks known login rest said event NotDue = Unit {0}
+Tracks known login rest said event (Stays outcome) =
+    IsTracked known (Some login) (next rest (word_if event outcome)) (said_next known.given said event outcome)
+Tracks known login rest said event (Moves outcome stage) =
+    IsTracked known (Some (at_stage login stage)) (next rest (word_if event outcome)) (said_next known.given said event outcome)
+
+module _ (known : Known) (serial : ℕ) (mech : Mech) (nonce : List ℕ) (rest : List StepWord) (said : Said) (mech_is : said.mech ≡ Some mech) where
+  abbrev login : KnownStage → KnownLogin
+  login stage = record { serial = serial; mech = mech; nonce = nonce; stage = stage }
+
+  -- a tracked login at a stage
+  abbrev TrackedAt : KnownStage → Type 0
+  TrackedAt stage = FitsStage stage rest × HoldsSaid known said stage
+
+  track_name1 : (c : ℕ) (claim : Claim) (stage : KnownStage) → TrackedAt stage
+      → Tracks known (login stage) (Some rest) said (events.Name1 c claim) (name1 known (login stage) claim stage)
+  track_name1 c claim Fresh at = by (naming known mech claim) refl
+    where
+      by : (o : Result Pinned Outcome) → naming known mech claim ≡ o
+          → Tracks known (login Fresh) (Some rest) said (events.Name1 c claim) (pinned_or o)
+      by (Ok pin) is =
+          let pins = naming_pins known mech claim pin is in
+          let version : pin.version ≡ length known.edits = ap (λ (p : Pinned). p.version) pins.0 in
+          let again : record { version = pin.version; place = pin.place; claim = claim } ≡ pin =
+          ap (λ v. (let p : Pinned = record { version = v; place = pin.place; claim = claim } in p)) version ∙ sym pins.0 in
+          record {
+            fits = moved_on rest _ _ words.Name1 at.0 refl refl;
+            is_said = (mech_is, record { pin = rw pins.1 (ap Some again); past = omega (arith, version) });
+          }
+      by (Err refusal) is =
+          let refused = naming_refuses known mech claim refusal is in
+          record {
+            fits = rw refused at.0;
+            is_said = (mech_is, tt);
+          }
+  track_name1 c claim (Loading p) at = tt
+  track_name1 c claim (Named p k) at = tt
+  track_name1 c claim (Checking p k e) at = tt
+  track_name1 c claim (Proved p) at = tt
+  track_name1 c claim (Authorized p) at = tt
+  track_name1 c claim (Complete p) at = tt
+  track_name1 c claim Failed at = tt
+
+  track_name2 : (c n : ℕ) (stage : KnownStage) → TrackedAt stage
+      → Tracks known (login stage) (Some rest) said (events.Name2 c n) (name2 stage)
+  track_name2 c n (Loading p) at = record { fits = moved_on rest _ _ words.Name2 at.0 refl refl; is_said = (mech_is, record { pin = at.1.pin; past = at.1.past }) }
+  track_name2 c n Fresh at = tt
+  track_name2 c n (Named p k) at = tt
+  track_name2 c n (Checking p k e) at = tt
+  track_name2 c n (Proved p) at = tt
+  track_name2 c n (Authorized p) at = tt
+  track_name2 c n (Complete p) at = tt
+  track_name2 c n Failed at = tt
+
+  track_check1 : (c : ℕ) (n : Option ℕ) (evidence : Evidence) (stage : KnownStage) → TrackedAt stage
+      → Tracks known (login stage) (Some rest) said (events.Check1 c n evidence) (check1 (login stage) evidence stage)
+  track_check1 c n evidence (Named p k) at = by (is_evidence_of mech evidence)
+    where
+      by : (b : Bool) → Tracks known (login (Named p k)) (Some rest) said (events.Check1 c n evidence)
+          (cond b (Moves outcomes.Fine (Checking p k evidence)) (Stays (outcomes.Mechanism mech)))
+      by true = record {
+        fits = moved_on rest _ _ words.Check1 at.0 refl refl;
+        is_said = (mech_is, (record { pin = at.1.pin; past = at.1.past }, refl));
+      }
+      by false = record { fits = at.0; is_said = (mech_is, record { pin = at.1.pin; past = at.1.past }) }
+  track_check1 c n evidence Fresh at = tt
+  track_check1 c n evidence (Loading p) at = tt
+  track_check1 c n evidence (Checking p k e) at = tt
+  track_check1 c n evidence (Proved p) at = tt
+  track_check1 c n evidence (Authorized p) at = tt
+  track_check1 c n evidence (Complete p) at = tt
+  track_check1 c n evidence Failed at = tt
+
+  -- what was said last of a login that is checked is what is judged
+  pub shown_is : (p : Pinned) (e : Evidence) → IsPinSaid known p said → said.evidence ≡ Some e
+      → has_shown known said ≡ is_proof_of (key_at known mech p.version p.place) e
+  shown_is p e pin evidence = rw (mech_is, pin.pin, evidence) refl
+
+  track_check2 : (c n : ℕ) (stage : KnownStage) → TrackedAt stage
+      → Tracks known (login stage) (Some rest) said (events.Check2 c n) (check2 known (login stage) stage)
+  track_check2 c n (Checking p k (evidences.Plain password)) at =
+      by (is_proof_of (key_at known mech p.version p.place) (evidences.Plain password)) refl
+    where
+      e : Evidence
+      e = evidences.Plain password
+
+      by : (b : Bool) → is_proof_of (key_at known mech p.version p.place) (evidences.Plain password) ≡ b
+          → Tracks known (login (Checking p k (evidences.Plain password))) (Some rest) said (events.Check2 c n)
+          (let judged : Outcome = cond b (outcomes.Proved None) outcomes.Password in Moves judged (cond (is_accepted judged) (Proved p) Failed))
+      by true proved = record {
+        fits = moved_on rest _ _ words.Check2 at.0 refl refl;
+        is_said = (mech_is, (record { pin = at.1.0.pin; past = at.1.0.past }, shown_is p (evidences.Plain password) at.1.0 at.1.1 ∙ proved));
+      }
+      by false proved = record { fits = not_ready at.0; is_said = (mech_is, tt) }
+  track_check2 c n Fresh at = tt
+  track_check2 c n (Loading p) at = tt
+  track_check2 c n (Named p k) at = tt
+  track_check2 c n (Proved p) at = tt
+  track_check2 c n (Authorized p) at = tt
+  track_check2 c n (Complete p) at = tt
+  track_check2 c n Failed at = tt
+
+  track_authorize : (c : ℕ) (stage : KnownStage) → TrackedAt stage
+      → Tracks known (login stage) (Some rest) said (events.Authorize c) (authorize known stage)
+  track_authorize c (Proved p) at = by (grants known p.version p.place to_log_in) refl
+    where
+      by : (b : Bool) → grants known p.version p.place to_log_in ≡ b
+          → Tracks known (login (Proved p)) (Some rest) said (events.Authorize c)
+          (Moves (cond b outcomes.Authorized (outcomes.Denied p.version)) (cond b (Authorized p) (Proved p)))
+      by true granted = record {
+        fits = moved_on rest _ _ words.Authorize at.0 refl refl;
+        is_said = (mech_is, (record { pin = at.1.0.pin; past = at.1.0.past }, at.1.1, rw at.1.0.pin granted));
+      }
+      by false granted = record { fits = at.0; is_said = (mech_is, (record { pin = at.1.0.pin; past = at.1.0.past }, at.1.1)) }
+  track_authorize c Fresh at = tt
+  track_authorize c (Loading p) at = tt
+  track_authorize c (Named p k) at = tt
+  track_authorize c (Checking p k e) at = tt
+  track_authorize c (Authorized p) at = tt
+  track_authorize c (Complete p) at = tt
+  track_authorize c Failed at = tt
+
+  track_allows : (c : ℕ) (wanted : List ℕ) (stage : KnownStage) → TrackedAt stage
+      → Tracks known (login stage) (Some rest) said (events.Allows c wanted) (allows known wanted stage)
+  track_allows c wanted (Complete p) at = by (grants known p.version p.place wanted)
+    where
+      by : (b : Bool) → Tracks known (login (Complete p)) (Some rest) said (events.Allows c wanted) (Stays (cond b outcomes.Yes outcomes.No))
+      by true = record { fits = still_ended rest words.Allows at.0; is_said = (mech_is, (record { pin = at.1.0.pin; past = at.1.0.past }, at.1.1, at.1.2)) }
+      by false = record { fits = still_ended rest words.Allows at.0; is_said = (mech_is, (record { pin = at.1.0.pin; past = at.1.0.past }, at.1.1, at.1.2)) }
+  track_allows c wanted Fresh at = tt
+  track_allows c wanted (Loading p) at = tt
+  track_allows c wanted (Named p k) at = tt
+  track_allows c wanted (Checking p k e) at = tt
+  track_allows c wanted (Proved p) at = tt
+  track_allows c wanted (Authorized p) at = tt
+  track_allows c wanted Failed at = tt
+
+  track_succeed : (c : ℕ) (stage : KnownStage) → TrackedAt stage
+      → Tracks known (login stage) (Some rest) said (events.Succeed c) (succeed known stage)
+  track_succeed c (Authorized p) at =
+      record { fits = ended rest words.Succeed refl; is_said = (mech_is, (record { pin = at.1.0.pin; past = at.1.0.past }, at.1.1, at.1.2)) }
+  track_succeed c Fresh at = tt
+  track_succeed c (Loading p) at = tt
+  track_succeed c (Named p k) at = tt
+  track_succeed c (Checking p k e) at = tt
+  track_succeed c (Proved p) at = tt
+  track_succeed c (Complete p) at = tt
+  track_succeed c Failed at = tt
+
+  failed : IsTracked known (Some (login Failed)) (Some (rest ++ words.Fail ∷ [])) said
+  failed = record { fits = rw (ended rest words.Fail refl) refl; is_said = (mech_is, tt) }
+
+  track_fail : (c : ℕ) (stage : KnownStage) → TrackedAt stage
+      → Tracks known (login stage) (Some rest) said (events.Fail c) (fail stage)
+  track_fail c Fresh at = failed
+  track_fail c (Loading p) at = failed
+  track_fail c (Named p k) at = failed
+  track_fail c (Checking p k e) at = failed
+  track_fail c (Proved p) at = failed
+  track_fail c (Authorized p) at = failed
+  track_fail c (Complete p) at = tt
+  track_fail c Failed at = tt
+
+-- every step tracks its login
+pub tracks : (known : Known) (login : KnownLogin) (rest : Option (List StepWord)) (said : Said) (event : Event)
+    → IsTracked known (Some login) rest said → Tracks known login rest said event (reply known login event)
+tracks known login None said event tracked = absurd tracked.fits
+tracks known login (Some rest) said event tracked = by event
+  where
+    by : (event : Event) → Tracks known login (Some rest) said event (reply known login event)
+    by (events.Name1 c claim) = track_name1 known login.serial login.mech login.nonce rest said tracked.is_said.0 c claim login.stage (tracked.fits, tracked.is_said.1)
+    by (events.Name2 c n) = track_name2 known login.serial login.mech login.nonce rest said tracked.is_said.0 c n login.stage (tracked.fits, tracked.is_said.1)
+    by (events.Check1 c n evidence) = track_check1 known login.serial login.mech login.nonce rest said tracked.is_said.0 c n evidence login.stage (tracked.fits, tracked.is_said.1)
+    by (events.Check2 c n) = track_check2 known login.serial login.mech login.nonce rest said tracked.is_said.0 c n login.stage (tracked.fits, tracked.is_said.1)
+    by (events.Authorize c) = track_authorize known login.serial login.mech login.nonce rest said tracked.is_said.0 c login.stage (tracked.fits, tracked.is_said.1)
+    by (events.Allows c wanted) = track_allows known login.serial login.mech login.nonce rest said tracked.is_said.0 c wanted login.stage (tracked.fits, tracked.is_said.1)
+    by (events.Succeed c) = track_succeed known login.serial login.mech login.nonce rest said tracked.is_said.0 c login.stage (tracked.fits, tracked.is_said.1)
+    by (events.Fail c) = track_fail known login.serial login.mech login.nonce rest said tracked.is_said.0 c login.stage (tracked.fits, tracked.is_said.1)
+    by (events.Bad bad) = tt
+    by (events.Change edit) = tt
+    by (events.Begin c m brought) = tt
+    by (events.Close c) = tt

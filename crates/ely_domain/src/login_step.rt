@@ -1,0 +1,126 @@
+//! One step of a login: it is found once under its id, and moves in its place.
+
+ghost use Rattle.std.specs.Prelude.{◌≡◌, ℕ, ◌==◌, false, true, IfOk, OnErr, IsOk, Some};
+ghost use Rattle.ely_context.specs.Logins.{login_of};
+ghost use Rattle.ely_domain.specs.Contexts.{Answers, IsReply, IsSound, IsSoundAt, read_of, seen_live, seen_login};
+ghost use Rattle.ely_domain.specs.Costs.{RoseBy, cost_for, login_cost, reply_cost};
+ghost use Rattle.ely_domain.specs.Domains.{IsLoginStep, TakesNoMemory};
+ghost use Rattle.ely_domain.specs.Machine.{answered};
+ghost use Rattle.ely_domain.specs.Steps.{reply, not_due};
+
+use crate::checking::{check1, check2};
+use crate::event::Event;
+use crate::granting::{allows, authorize, fail, succeed};
+use crate::handouts::Handouts;
+use crate::naming::{name1, name2};
+use ely_base::{CtxId, NoMemory};
+use ely_config::Config;
+use ely_context::{Context, Logins};
+use ely_hash::Steps;
+use ely_script::Outcome;
+use ely_table::Tables;
+use std::alloc::Global;
+use std::sync::ledger::Ledger;
+
+/// The step of a login that was found and has the serial that is carried.
+fn move_login<L: Ledger>(
+    alloc: Global,
+    config: &Config,
+    tables: &Tables,
+    context: &mut Context,
+    handouts: &mut Handouts,
+    id: CtxId,
+    event: Event,
+    steps: &mut Steps<L>,
+) -> Result<Outcome, NoMemory>
+    requires due { IsLoginStep event }
+    requires sound { IsSoundAt (read_of config.now tables.now)
+        (login_of handouts.old id) context.old }
+    ensures reply { IfOk result (λ outcome. IsReply
+        (reply (read_of config.now tables.now) (seen_login context.old) event)
+        (not_due event) context.old outcome context.new) }
+    ensures sound { IsSoundAt (read_of config.now tables.now)
+        (login_of handouts.new id) context.new }
+    ensures others { (c : ℕ) → (c == id) ≡ false
+        → login_of handouts.new c ≡ login_of handouts.old c }
+    ensures err { OnErr result ((context.new ≡ context.old) × (handouts.new ≡ handouts.old)) }
+    ensures takes_no_memory { TakesNoMemory event → IsOk result }
+    ensures cost { RoseBy steps.old steps.new
+        (reply_cost (read_of config.now tables.now) (seen_login context.old) event) }
+{
+    match event {
+        Event::Name1 { claim, .. } => name1(alloc, config, tables, context, claim),
+        Event::Name2 { .. } => name2(alloc, config, tables, context, steps),
+        Event::Check1 { evidence, .. } => Ok(check1(context, evidence)),
+        Event::Check2 { .. } => Ok(check2(config, tables, context, steps)),
+        Event::Authorize { .. } => authorize(alloc, config, tables, context, handouts, id),
+        Event::Allows { wanted, .. } => Ok(allows(context, &wanted)),
+        Event::Succeed { .. } => Ok(succeed(config, tables, context, handouts, id)),
+        Event::Fail { .. } => Ok(fail(config, tables, context, handouts, id)),
+        Event::Bad { .. } | Event::Change { .. } | Event::Begin { .. } | Event::Close { .. } => {
+            unreachable!()
+        }
+    }
+}
+
+/// The step of a login that was found.
+fn answer_found<L: Ledger>(
+    alloc: Global,
+    config: &Config,
+    tables: &Tables,
+    context: &mut Context,
+    handouts: &mut Handouts,
+    id: CtxId,
+    event: Event,
+    steps: &mut Steps<L>,
+) -> Result<Outcome, NoMemory>
+    requires due { IsLoginStep event }
+    requires sound { IsSoundAt (read_of config.now tables.now)
+        (login_of handouts.old id) context.old }
+    ensures answer { IfOk result (λ outcome.
+        Answers (read_of config.now tables.now) event context.old outcome context.new) }
+    ensures sound { IsSoundAt (read_of config.now tables.now)
+        (login_of handouts.new id) context.new }
+    ensures others { (c : ℕ) → (c == id) ≡ false
+        → login_of handouts.new c ≡ login_of handouts.old c }
+    ensures err { OnErr result ((context.new ≡ context.old) × (handouts.new ≡ handouts.old)) }
+    ensures takes_no_memory { TakesNoMemory event → IsOk result }
+    ensures cost { RoseBy steps.old steps.new
+        (cost_for (read_of config.now tables.now) event (Some (seen_login context.old))) }
+{
+    if !event.is_carried(context.serial()) {
+        return Ok(Outcome::Gone);
+    }
+    move_login(alloc, config, tables, context, handouts, id, event, steps)
+}
+
+/// The step of the login with this id.
+#[tactic(auto, unfolding(crate::specs::Machine::answered))]
+pub(crate) fn login_step<L: Ledger>(
+    alloc: Global,
+    config: &Config,
+    tables: &Tables,
+    logins: &mut Logins,
+    handouts: &mut Handouts,
+    id: CtxId,
+    event: Event,
+    steps: &mut Steps<L>,
+) -> Result<Outcome, NoMemory>
+    requires due { IsLoginStep event }
+    requires sound { IsSound (read_of config.now tables.now) logins.old handouts.old }
+    ensures answer { IfOk result (λ outcome.
+        answered (read_of config.now tables.now) (seen_live logins.old) event id
+        ≡ record { outcome = outcome; live = seen_live logins.new }) }
+    ensures sound { IsSound (read_of config.now tables.now) logins.new handouts.new }
+    ensures err { OnErr result ((logins.new ≡ logins.old) × (handouts.new ≡ handouts.old)) }
+    ensures takes_no_memory { TakesNoMemory event → IsOk result }
+    ensures cost { RoseBy steps.old steps.new
+        (login_cost (read_of config.now tables.now) (seen_live logins.old) event id) }
+{
+    match logins.find_mut(id) {
+        None => Ok(event.not_there()),
+        Some(context) => {
+            answer_found(alloc, config, tables, context, handouts, id, event, steps)
+        }
+    }
+}

@@ -1,0 +1,77 @@
+-- Where nothing failed and no limit was met, all was written, or memory ran out.
+use Rattle.std.proofs.Common.{◌≡◌, ℕ, ◌<◌, List, [], ◌∷◌, ◌++◌, length, Option, Some, None, Ok, Err, refl, sym, ap, subst, ◌∙◌, ◌⊎◌, inl, inr, ⊎_elim, arith, append_assoc, append-nil, length-append}
+use Rattle.std.specs.Io.KnownBytes.{Consumes, IsAtEnd}
+use Rattle.ely_io.specs.Streams.{Input}
+use Rattle.ely_io.specs.Causes.{Rose}
+use Rattle.ely_io.specs.Lines.{HasNoLf, lines_of}
+use Rattle.ely_io.specs.Reading.{most}
+use Rattle.ely_io.proofs.LineLaws.{lines_of-line, lines_of-last}
+use Rattle.ely_front.specs.declared.ending.Ending.{Ending}
+use Rattle.ely_front.specs.declared.ending.Ending.TheVariants as ending
+use Rattle.ely_front.specs.declared.first_line.ConfigFault.{ConfigFault}
+use Rattle.ely_domain.specs.Given.{Given}
+use Rattle.ely_front.specs.Moments.{Moment}
+use Rattle.ely_front.specs.FirstLine.{conf, IsFirstLine}
+use Rattle.ely_front.specs.Ending.{Ends, IsDone, status_of}
+use Rattle.ely_front.specs.Call.{Replays, HasCauses, IsComplete, IsWithinLimits}
+
+same_head : (x y : List ℕ) (xs ys : List (List ℕ)) → x ∷ xs ≡ y ∷ ys → x ≡ y
+same_head x y xs ys h = cc
+
+-- bytes that were given are a front of all
+front_of_all : (bytes gave : List ℕ) (left : Option (List ℕ)) → Consumes (Some bytes) left gave → (rest : List ℕ) × (left ≡ Some rest) × (bytes ≡ gave ++ rest)
+front_of_all bytes gave None took = absurd took
+front_of_all bytes gave (Some rest) took = (rest, refl, took)
+
+-- the only line of bytes without an LF, where there is a line
+only_line : (first : List ℕ) (line : List ℕ) (lines : List (List ℕ)) → HasNoLf first → lines_of first ≡ line ∷ lines → first ≡ line
+only_line [] line lines none h = absurd cc
+only_line (x ∷ xs) line lines none h = same_head (x ∷ xs) line [] lines (sym (lines_of-last (x ∷ xs) none (omega arith)) ∙ h)
+
+-- the first line that was given is the first of all
+first_of_all : (bytes gave : List ℕ) (input : Input) (first line : List ℕ) (lines : List (List ℕ)) → Consumes (Some bytes) input.left gave → IsFirstLine gave input first → lines_of bytes ≡ line ∷ lines → first ≡ line
+first_of_all bytes gave input first line lines took is h =
+    let f = front_of_all bytes gave input.left took in
+    ⊎_elim
+    (λ (g : (rest : List ℕ) × (gave ≡ first ++ 10 ∷ rest)).
+    let all : bytes ≡ first ++ 10 ∷ (g.0 ++ f.0) = f.2 ∙ (ap (λ xs. xs ++ f.0) g.1 ∙ append_assoc first (10 ∷ g.0) f.0) in
+    same_head first line (lines_of (g.0 ++ f.0)) lines (sym (lines_of-line first (g.0 ++ f.0) is.no_lf) ∙ (ap lines_of (sym all) ∙ h)))
+    (λ (g : (gave ≡ first) × IsAtEnd input.left × (length gave < most)).
+    let none : f.0 ≡ [] = subst IsAtEnd f.1 g.1 in
+    let all : bytes ≡ first = f.2 ∙ (ap (λ xs. gave ++ xs) none ∙ (append-nil gave ∙ g.0)) in
+    only_line first line lines is.no_lf (ap lines_of (sym all) ∙ h))
+    is.given
+
+-- at the end of the input all was given
+all_given : (bytes gave : List ℕ) (left : Option (List ℕ)) → Consumes (Some bytes) left gave → IsAtEnd left → gave ≡ bytes
+all_given bytes gave left took at_end =
+    let f = front_of_all bytes gave left took in
+    let none : f.0 ≡ [] = subst IsAtEnd f.1 at_end in
+    sym (f.2 ∙ (ap (λ xs. gave ++ xs) none ∙ append-nil gave))
+
+given_or_fault : (given : Given) (fault : ConfigFault) (line first : List ℕ) → line ≡ first → conf line ≡ Err fault → conf first ≡ Ok given → ⊥
+given_or_fault given fault line first same bad good = absurd (cc)
+
+module _ (bytes gave : List ℕ) (before after : Moment) (status : ℕ) (within : IsWithinLimits before.input bytes) (took : Consumes (Some bytes) after.input.left gave) (causes : HasCauses before after status)
+    (source : Rose before.input.faults after.input.faults → ⊥) (sink : Rose before.output.faults after.output.faults → ⊥) where
+  by_ending : (e : Ending) → status ≡ status_of e → Ends gave before after e → ((status ≡ 0) × IsDone bytes before after) ⊎ (status ≡ 1)
+  by_ending ending.Done is ends = inl (is, subst (λ xs. IsDone xs before after) (all_given bytes gave after.input.left took ends.at_end) ends)
+  by_ending ending.NoMemory is ends = inr is
+  by_ending ending.Words is ends = absurd ends
+  by_ending ending.Read is ends = absurd (source (causes.read is))
+  by_ending ending.Write is ends = absurd (sink (causes.write is))
+  by_ending ending.BytesLimit is ends =
+      let f = front_of_all bytes gave after.input.left took in
+      absurd (omega (arith, within.few, ends.1.0, ap length f.2, length-append gave f.0))
+  by_ending ending.Config is ends =
+      let says = ends.1 in
+      absurd (given_or_fault within.given says.1 says.0 within.first (first_of_all bytes gave after.input says.0 within.first within.lines took says.2 within.is_read) says.4 within.configures.1)
+  by_ending ending.ConfigLimit is ends =
+      let says = ends.1 in
+      let same : says.0 ≡ within.first = first_of_all bytes gave after.input says.0 within.first within.lines took says.1 within.is_read in
+      absurd (omega (arith, within.configures.0, says.2, ap length same))
+
+pub complete : (before after : Moment) (status : ℕ) → Replays before after status → HasCauses before after status → IsComplete before after status
+complete before after status replays causes bytes within source sink =
+    let ends = replays.2 in
+    by_ending bytes ends.0 before after status within (subst (λ l. Consumes l after.input.left ends.0) within.told ends.1) causes source sink replays.0 replays.1 ends.3

@@ -1,0 +1,108 @@
+-- How a replay ends, and what was written then.
+use Rattle.std.specs.Prelude.{ℕ, ◌≡◌, ◌⊎◌, ◌+◌, ◌≤◌, ◌<◌, List, [], ◌∷◌, ◌++◌, length, codes, Err}
+use Rattle.std.specs.Io.KnownBytes.{Consumes, Appends, IsAtEnd}
+use Rattle.ely_base.specs.declared.refused.Refused.{Refused}
+use Rattle.ely_base.specs.declared.refused.Refused.TheVariants.{Fault, NoMemory as OutOfMemory}
+use Rattle.ely_io.specs.declared.line.LineFault.{LineFault}
+use Rattle.ely_io.specs.declared.line.LineFault.TheVariants.{Read as ReadFault, Spent as SpentFault}
+use Rattle.ely_io.specs.Streams.{Input, Output}
+use Rattle.ely_io.specs.Causes.{AppendsFront}
+use Rattle.ely_io.specs.Lines.{lines_of, whole_lines}
+use Rattle.ely_io.specs.Reading.{most}
+use Rattle.ely_domain.specs.Given.{Given}
+use Rattle.ely_domain.specs.Headline.{IsHistoryOf}
+use Rattle.ely_domain.specs.Replays.{Told}
+use Rattle.ely_front.specs.declared.ending.Ending.{Ending}
+use Rattle.ely_front.specs.declared.ending.Ending.TheVariants.{Done, NoMemory, Words, Config, Read, Write, ConfigLimit, BytesLimit}
+use Rattle.ely_front.specs.declared.first_line.ConfigFault.{ConfigFault}
+use Rattle.ely_front.specs.Moments.{Moment}
+use Rattle.ely_front.specs.FirstLine.{conf, Configures, config_text, config_most, config_limit_text, IsFirstLine}
+use Rattle.ely_front.specs.Lines.{script_of, text_of, cost_of, IsPrinted}
+
+-- the exit status of each ending
+abbrev pub status_of : Ending → ℕ
+status_of Done = 0
+status_of NoMemory = 1
+status_of Words = 2
+status_of Config = 3
+status_of Read = 4
+status_of Write = 5
+status_of ConfigLimit = 6
+status_of BytesLimit = 6
+
+-- the line that is written where the words are no command
+abbrev pub words_text : List ℕ
+words_text = codes "words\n"
+
+-- the line that is written where the reader took all that it may take
+abbrev pub bytes_limit_text : List ℕ
+bytes_limit_text = codes "limit bytes 1099511627776\n"
+
+-- The whole input was read, its first line is the configuration, and the text of a history of the other lines was
+-- written, and nothing else. The counter of HMAC computations rose by the cost of that history at most.
+pub record IsDone (gave : List ℕ) (before after : Moment) : Type 0 where
+  pub given : Given
+  pub first : List ℕ
+  pub lines : List (List ℕ)
+  pub history : List Told
+  pub at_end : IsAtEnd after.input.left
+  pub few : length gave < most
+  pub is_read : lines_of gave ≡ first ∷ lines
+  pub configures : Configures first given
+  pub is_history : IsHistoryOf given (script_of lines) history
+  pub is_written : Appends before.output.held after.output.held (text_of history)
+  pub is_paid : after.steps ≤ before.steps + cost_of given history
+
+-- A text that belongs to an ending, for the bytes that the source gave. Only at the end of the input is a line read that
+-- has no LF.
+abbrev pub Says : List ℕ → Input → Ending → List ℕ → Type 0
+Says gave input Done said = IsAtEnd input.left × (length gave < most) × IsPrinted (lines_of gave) said
+Says gave input Read said = (length gave < most) × IsPrinted (whole_lines gave) said
+Says gave input BytesLimit said = (length gave ≡ most)
+    × (printed : List ℕ) × IsPrinted (whole_lines gave) printed × (said ≡ printed ++ bytes_limit_text)
+Says gave input Config said = (first : List ℕ) × (fault : ConfigFault) × IsFirstLine gave input first
+    × (length first ≤ config_most) × (conf first ≡ Err fault) × (said ≡ config_text fault)
+Says gave input ConfigLimit said = (first : List ℕ) × IsFirstLine gave input first
+    × (config_most < length first) × (said ≡ config_limit_text)
+Says gave input _ said = ⊥
+
+-- nothing was written, or a front of a text that belongs to an ending
+abbrev pub IsCutShort : List ℕ → Moment → Moment → Type 0
+IsCutShort gave before after = Appends before.output.held after.output.held []
+    ⊎ ((ending : Ending) × (said : List ℕ) × Says gave after.input ending said
+    × AppendsFront before.output.held after.output.held said)
+
+-- a text that belongs to the ending was written whole
+abbrev pub IsSaid : List ℕ → Moment → Moment → Ending → Type 0
+IsSaid gave before after ending = (said : List ℕ) × Says gave after.input ending said
+    × Appends before.output.held after.output.held said
+
+-- how a replay ends between two moments, where the source gave these bytes
+abbrev pub Ends : List ℕ → Moment → Moment → Ending → Type 0
+Ends gave before after Done = IsDone gave before after
+Ends gave before after NoMemory = IsCutShort gave before after
+Ends gave before after Write = IsCutShort gave before after
+Ends gave before after Words = ⊥
+Ends gave before after ending = IsSaid gave before after ending
+
+-- the source gave some bytes, no more than a reader takes, and the replay ends so
+abbrev pub EndsAs : Moment → Moment → Ending → Type 0
+EndsAs before after ending = (gave : List ℕ) × Consumes before.input.left after.input.left gave
+    × (length gave ≤ most) × Ends gave before after ending
+
+-- the text was written and that is the ending, or the sink failed
+abbrev pub Closes : Output → Output → List ℕ → Ending → Ending → Type 0
+Closes before after said ending result = ((result ≡ ending) × Appends before.held after.held said)
+    ⊎ ((result ≡ Write) × AppendsFront before.held after.held said)
+
+-- how a mode ends where the reader of lines refused
+abbrev pub stop_ending : Refused LineFault → Ending
+stop_ending OutOfMemory = NoMemory
+stop_ending (Fault ReadFault) = Read
+stop_ending (Fault SpentFault) = BytesLimit
+
+-- the text that is written then
+abbrev pub stop_text : Refused LineFault → List ℕ
+stop_text OutOfMemory = []
+stop_text (Fault ReadFault) = []
+stop_text (Fault SpentFault) = bytes_limit_text

@@ -1,0 +1,135 @@
+//! The first line of a script, which is the configuration.
+
+ghost use Rattle.std.specs.Prelude.{◌≡◌, ◌≤◌, ℕ, IfOk, OnOk, IfErr, Err};
+ghost use Rattle.std.specs.Str.{bytes_eq};
+ghost use Rattle.ely_io.specs.Causes.{Rose};
+ghost use Rattle.ely_front.specs.Moments.{at};
+ghost use Rattle.ely_front.specs.FirstLine.{conf, first_of, first_text, first_ending, IsBegun};
+ghost use Rattle.ely_front.specs.Ending.{Closes, EndsAs};
+
+use crate::ending::{CONFIG_LIMIT_TEXT, CONFIG_TEXT, Ending, close, stop};
+use ely_base::NoMemory;
+use ely_config::Config;
+use ely_domain::JOURNAL_LIMIT;
+use ely_io::{Line, LineReader, Sink, Source};
+use std::alloc::Global;
+use std::marker::Model;
+
+/// The most bytes of the first line.
+const CONFIG_LIMIT: usize = 1048576;
+
+/// What a first line gives: the configuration, and the most edits that the journal takes.
+#[derive(Drop)]
+pub(crate) struct Setup {
+    pub(crate) config: Config,
+    pub(crate) journal_limit: u32,
+}
+
+impl Model for Setup {
+    ghost use Rattle.std.specs.Prelude.{◌≤◌};
+    ghost use Rattle.ely_domain.specs.Given.{Given};
+
+    ghost Value = { Given };
+
+    ghost view = { λ s. record { config = s.config; limit = s.journal_limit } };
+
+    ghost invariant = { λ s. (1 ≤ s.journal_limit) × (s.journal_limit ≤ 131072) };
+}
+
+/// Why a line is no configuration.
+#[derive(Clone, Copy)]
+pub(crate) enum ConfigFault {
+    /// It has something that the program can't do yet.
+    NotBuilt,
+}
+
+/// Why a first line is refused.
+#[derive(Clone, Copy)]
+pub(crate) enum FirstFault {
+    /// It is no configuration.
+    Config(ConfigFault),
+    /// It has too many bytes.
+    Long,
+}
+
+/// A script whose first line was read.
+#[derive(Drop)]
+pub(crate) struct Begun {
+    pub(crate) setup: Setup,
+    pub(crate) reader: LineReader,
+}
+
+/// Reads the configuration, or says why the line is none.
+fn read_config(alloc: Global, line: &[u8]) -> Result<Result<Setup, ConfigFault>, NoMemory>
+    ensures { IfOk result (λ read. read ≡ conf line.now) }
+{
+    if line != b"{}".as_slice() {
+        return Ok(Err(ConfigFault::NotBuilt));
+    }
+    Ok(Ok(Setup {
+        config: Config::plain(alloc)?,
+        journal_limit: JOURNAL_LIMIT,
+    }))
+}
+
+/// What a line is as the first one. An input without a line has the empty one.
+fn judge_first(alloc: Global, line: Line) -> Result<Result<Setup, FirstFault>, NoMemory>
+    ensures { IfOk result (λ judged. judged ≡ first_of line) }
+{
+    let read = match line {
+        Line::TooLong => return Ok(Err(FirstFault::Long)),
+        Line::End => read_config(alloc, b"")?,
+        Line::Text(text) => read_config(alloc, text.bytes())?,
+    };
+    match read {
+        Ok(setup) => Ok(Ok(setup)),
+        Err(fault) => Ok(Err(FirstFault::Config(fault))),
+    }
+}
+
+/// Writes why the first line is refused.
+fn refuse_first<K: Sink>(sink: &mut K, fault: FirstFault) -> Ending
+    ensures ends { Closes
+        (K.seen sink.old) (K.seen sink.new) (first_text fault) (first_ending fault) result }
+    ensures write { result ≡ Ending.Write
+        → Rose (K.seen sink.old).faults (K.seen sink.new).faults }
+{
+    match fault {
+        FirstFault::Config(ConfigFault::NotBuilt) => close(sink, &CONFIG_TEXT, Ending::Config),
+        FirstFault::Long => close(sink, &CONFIG_LIMIT_TEXT, Ending::ConfigLimit),
+    }
+}
+
+/// Reads the first line of the script that the source gives. Where it is no configuration that is written, and the
+/// answer is how the mode ends.
+pub(crate) fn read_first_line<S: Source, K: Sink>(
+    alloc: Global,
+    source: &mut S,
+    sink: &mut K,
+) -> Result<Begun, Ending>
+    ensures begun { IfOk result (λ begun.
+        IsBegun (S.seen source.old) (S.seen source.new) begun.reader begun.setup) }
+    ensures unwritten { OnOk result (sink.new ≡ sink.old) }
+    ensures ended { IfErr result (λ ending. (steps : ℕ) → EndsAs
+        (at (S.seen source.old) (K.seen sink.old) steps)
+        (at (S.seen source.new) (K.seen sink.new) steps) ending) }
+    ensures read { result ≡ Err Ending.Read
+        → Rose (S.seen source.old).faults (S.seen source.new).faults }
+    ensures write { result ≡ Err Ending.Write
+        → Rose (K.seen sink.old).faults (K.seen sink.new).faults }
+    ensures later { (S.seen source.old).faults ≤ (S.seen source.new).faults }
+{
+    let mut reader = match LineReader::new(alloc) {
+        Ok(reader) => reader,
+        Err(_) => return Err(Ending::NoMemory),
+    };
+    let line = match reader.next(alloc, source, CONFIG_LIMIT) {
+        Ok(line) => line,
+        Err(refused) => return Err(stop(sink, b"", refused)),
+    };
+    match judge_first(alloc, line) {
+        Ok(Ok(setup)) => Ok(Begun { setup, reader }),
+        Ok(Err(fault)) => Err(refuse_first(sink, fault)),
+        Err(_) => Err(Ending::NoMemory),
+    }
+}

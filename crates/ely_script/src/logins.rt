@@ -1,0 +1,145 @@
+//! Reading the arguments of the steps of a login, from left to right.
+
+ghost use Rattle.std.specs.Prelude.{◌≡◌};
+ghost use Rattle.ely_base.specs.Refused.{Gives};
+ghost use Rattle.ely_script.specs.LoginLines.{built, is_later_mech, mech_at, is_nonce, nonce_at, open_of, message_at, plain_line_of, scram_of, digest_of, only_ctx_at, permission_at, allows_of};
+
+use crate::args::{Args, Word};
+use crate::command::Verb;
+use crate::limits::{MAX_NONCE_BYTES, MAX_PERMISSION_BYTES};
+use crate::outcome::BadLine;
+use ely_base::{Bytes, CtxId, Refused, are_printable_but, or_fault, read_base64, refused_as};
+use ely_plain::{PlainMsg, read_plain};
+use ely_row::Mech;
+use std::alloc::Global;
+
+/// Nothing, or that this isn't built yet.
+fn built(later: bool) -> Result<(), BadLine>
+    ensures { result ≡ built later }
+{
+    if later {
+        return Err(BadLine::NotBuilt);
+    }
+    Ok(())
+}
+
+/// Whether a mechanism is one that isn't built yet.
+fn is_later_mech(word: &[u8]) -> bool
+    ensures { result ≡ is_later_mech word.now }
+{
+    word == b"SCRAM-SHA-1".as_slice()
+        || word == b"SCRAM-SHA-256".as_slice()
+        || word == b"DIGEST".as_slice()
+        || word == b"DIGEST-SHA-256".as_slice()
+}
+
+fn read_mech(word: Word) -> Result<Mech, BadLine>
+    ensures { result ≡ mech_at word.entry }
+{
+    if word.bytes == b"PLAIN".as_slice() {
+        Ok(Mech::Plain)
+    } else {
+        Err(BadLine::Word(4))
+    }
+}
+
+/// Whether the word may be a nonce.
+fn is_nonce(word: &[u8]) -> bool
+    ensures { result ≡ is_nonce word.now }
+{
+    1 <= word.len() && word.len() <= MAX_NONCE_BYTES && are_printable_but(b" \",\\", word)
+}
+
+/// The nonce that the fifth word is, where it is there.
+fn read_nonce(alloc: Global, word: Option<Word>) -> Result<Option<Bytes>, Refused<BadLine>>
+    ensures { Gives result (nonce_at word.entry) }
+{
+    match word {
+        None => Ok(None),
+        Some(word) => {
+            if !is_nonce(word.bytes) {
+                return Err(Refused::Fault(BadLine::Word(5)));
+            }
+            Ok(Some(Bytes::copy_of(alloc, word.bytes)?))
+        }
+    }
+}
+
+pub(crate) fn read_open(alloc: Global, args: Args) -> Result<Verb, Refused<BadLine>>
+    ensures { Gives result (open_of args.entry) }
+{
+    let (ctx, args) = args.first()?;
+    let (mech, args) = args.first()?;
+    let nonce = args.last()?;
+    built(is_later_mech(mech.bytes))?;
+    let ctx = ctx.ctx(3)?;
+    let mech = read_mech(mech)?;
+    let nonce = read_nonce(alloc, nonce)?;
+    Ok(Verb::Begin { ctx, mech, nonce })
+}
+
+/// The message of PLAIN of a base64 text.
+fn read_message(alloc: Global, word: Word) -> Result<PlainMsg, Refused<BadLine>>
+    ensures { Gives result (message_at word.entry) }
+{
+    let bytes = or_fault(read_base64(alloc, word.bytes), BadLine::Word(4))?;
+    refused_as(read_plain(alloc, bytes.bytes()), BadLine::Plain)
+}
+
+pub(crate) fn read_plain_line(alloc: Global, args: Args) -> Result<Verb, Refused<BadLine>>
+    ensures { Gives result (plain_line_of args.entry) }
+{
+    let (ctx, message) = args.two()?;
+    let ctx = ctx.ctx(3)?;
+    let message = read_message(alloc, message)?;
+    Ok(Verb::Plain { ctx, message })
+}
+
+/// A line with a message of SCRAM, which isn't built yet.
+pub(crate) fn read_scram(args: Args) -> Result<Verb, BadLine>
+    ensures { result ≡ scram_of args.entry }
+{
+    let (_, args) = args.first()?;
+    args.first()?;
+    Err(BadLine::NotBuilt)
+}
+
+/// A line with a header of Digest, which isn't built yet.
+pub(crate) fn read_digest(args: Args) -> Result<Verb, BadLine>
+    ensures { result ≡ digest_of args.entry }
+{
+    let (_, args) = args.first()?;
+    let (_, args) = args.first()?;
+    let (_, args) = args.first()?;
+    args.first()?;
+    Err(BadLine::NotBuilt)
+}
+
+/// The login of a line that has no other argument.
+pub(crate) fn read_only_ctx(args: Args) -> Result<CtxId, BadLine>
+    ensures { result ≡ only_ctx_at args.entry }
+{
+    let word = args.one()?;
+    word.ctx(3)
+}
+
+/// A permission: a coded word of 1 to 255 bytes.
+fn read_permission(alloc: Global, word: Word) -> Result<Bytes, Refused<BadLine>>
+    ensures { Gives result (permission_at word.entry) }
+{
+    let wanted = word.coded(alloc, 4)?;
+    if 1 <= wanted.bytes().len() && wanted.bytes().len() <= MAX_PERMISSION_BYTES {
+        Ok(wanted)
+    } else {
+        Err(Refused::Fault(BadLine::Word(4)))
+    }
+}
+
+pub(crate) fn read_allows(alloc: Global, args: Args) -> Result<Verb, Refused<BadLine>>
+    ensures { Gives result (allows_of args.entry) }
+{
+    let (ctx, wanted) = args.two()?;
+    let ctx = ctx.ctx(3)?;
+    let wanted = read_permission(alloc, wanted)?;
+    Ok(Verb::Allows { ctx, wanted })
+}
