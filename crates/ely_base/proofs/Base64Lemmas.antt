@@ -127,7 +127,7 @@ length-encoded b =
     ∙ ap (λ (n : ℕ). unpadded_len (length b) + n) len)
 
 pub record Pieces (s b : List ℕ) : Type 0 where
-  pub front : bytes_of (take 64 s) ≡ Ok (take 48 b)
+  pub prefix : bytes_of (take 64 s) ≡ Ok (take 48 b)
   pub size : length (take 48 b) ≡ 48
   pub back : bytes_of (drop 64 s) ≡ Ok (drop 48 b)
 
@@ -143,7 +143,7 @@ pieces s b bytes long h =
     let whole : s ≡ encode_of standard x ++ encode_of standard y = is ∙ (ap (encode_of standard) (sym (take-append-drop 48 b)) ∙ parts) in
     let len : length (encode_of standard x) ≡ 64 = omega (arith, length-encoded x, size) in
     record {
-      front = ap bytes_of (ap (take 64) whole ∙ take_at _ (encode_of standard y) 64 len) ∙ decode_of-encode_of standard x refl (IsBytes-take 48 b ok);
+      prefix = ap bytes_of (ap (take 64) whole ∙ take_at _ (encode_of standard y) 64 len) ∙ decode_of-encode_of standard x refl (IsBytes-take 48 b ok);
       size = size;
       back = ap bytes_of (ap (drop 64) whole ∙ drop_at _ (encode_of standard y) 64 len) ∙ decode_of-encode_of standard y refl (IsBytes-drop 48 b ok);
     }
@@ -179,7 +179,7 @@ rest_decides s x bytes long h size =
 -- a bad piece decides
 pub piece_decides : (s : List ℕ) → IsBytes s → 64 < length s → ((x : List ℕ) → bytes_of (take 64 s) ≡ Ok x → length x ≡ 48 → ⊥) → false ≡ is_base64 s
 piece_decides s bytes long h = elim (cases_result (bytes_of s)) [
-  | inl ok ↦ let p = pieces s ok.0 bytes long ok.1 in absurd (h (take 48 ok.0) p.front p.size)
+  | inl ok ↦ let p = pieces s ok.0 bytes long ok.1 in absurd (h (take 48 ok.0) p.prefix p.size)
   | inr bad ↦ sym (is_base64_is s ∙ ap is_ok bad.1)
 ]
 

@@ -6,34 +6,34 @@ use Rattle.ely_base.specs.Refused.{◌>>=◌}
 use Rattle.ely_digest_msg.specs.Parts.{is_gap, after}
 use Rattle.ely_digest_msg.specs.Fields.{Values, known, nothing}
 use Rattle.ely_digest_msg.specs.Members.{kept, member_of, members_of, list_of}
-use Rattle.ely_digest_msg.specs.Grammar.{Member, BeginsWith, IsNew, AreNew, values_with, IsFront, IsFirstFault}
+use Rattle.ely_digest_msg.specs.Grammar.{Member, BeginsWith, IsNew, AreNew, values_with, IsPrefix, IsFirstFault}
 use Rattle.ely_digest_msg.specs.declared.fault.DigestFault.{DigestFault}
 use Rattle.ely_digest_msg.proofs.MemberLemmas.{members_end, members_fault, goes_on}
 use Rattle.ely_digest_msg.proofs.GrammarLemmas.{IsTail, at_end, members_comma, one_more, shorter_tail, one_member}
 use Rattle.ely_digest_msg.proofs.SoundLemmas.{IsSameAnswer, no_answer, member_sound, begins_with}
 
 -- the first fault of a list is told
-tells : (ms : List Member) (n size : ℕ) (values : Values) (text rest : List ℕ) (fault : DigestFault) → length text < n → IsFront ms text rest → AreNew values ms → 0 < length (after is_gap rest) → member_of size (values_with values ms) (after is_gap rest) ≡ Err fault → members_of n size values text ≡ Err fault
-tells [] n size values text rest fault h front fresh due here =
+tells : (ms : List Member) (n size : ℕ) (values : Values) (text rest : List ℕ) (fault : DigestFault) → length text < n → IsPrefix ms text rest → AreNew values ms → 0 < length (after is_gap rest) → member_of size (values_with values ms) (after is_gap rest) ≡ Err fault → members_of n size values text ≡ Err fault
+tells [] n size values text rest fault h prefix fresh due here =
     let k = one_more (length text) n h in
-    let some : length (after is_gap text) ≢ 0 = omega (arith, due, ap (λ (xs : List ℕ). length (after is_gap xs)) front) in
-    let fails : Err fault ≡ member_of size values (after is_gap text) = sym (ap (λ (xs : List ℕ). member_of size values (after is_gap xs)) front ∙ here) in
+    let some : length (after is_gap text) ≢ 0 = omega (arith, due, ap (λ (xs : List ℕ). length (after is_gap xs)) prefix) in
+    let fails : Err fault ≡ member_of size values (after is_gap text) = sym (ap (λ (xs : List ℕ). member_of size values (after is_gap xs)) prefix ∙ here) in
     ap (λ (i : ℕ). members_of i size values text) k.1 ∙ members_fault k.0 size values text (after is_gap text) refl fault some fails
-tells (m ∷ ms) n size values text rest fault h front fresh due here =
+tells (m ∷ ms) n size values text rest fault h prefix fresh due here =
     let k = one_more (length text) n h in
-    let more = front.0 in
+    let more = prefix.0 in
     let next = kept (known m.0) m.1 values in
-    let less : suc (length more) < length text = shorter_tail m text (44 ∷ more) front.1 in
+    let less : suc (length more) < length text = shorter_tail m text (44 ∷ more) prefix.1 in
     let j = one_more (length more) k.0 (omega (arith, k.1, h, less)) in
     ap (λ (i : ℕ). members_of i size values text) k.1
-    ∙ one_member k.0 size values m text (44 ∷ more) front.1 refl fresh.0
+    ∙ one_member k.0 size values m text (44 ∷ more) prefix.1 refl fresh.0
     ∙ ap (λ (i : ℕ). members_of i size next (44 ∷ more)) j.1
     ∙ members_comma j.0 size next more
     ∙ ap (λ (i : ℕ). members_of i size next more) (sym j.1)
-    ∙ tells ms k.0 size next more rest fault (omega (arith, k.1, h, less)) front.2 fresh.1 due here
+    ∙ tells ms k.0 size next more rest fault (omega (arith, k.1, h, less)) prefix.2 fresh.1 due here
 
 pub tells_faults : (size : ℕ) (text : List ℕ) (fault : DigestFault) → IsFirstFault size text fault → list_of size text ≡ Err fault
-tells_faults size text fault f = tells f.members (length text + 1) size nothing text f.rest fault (omega arith) f.front f.distinct f.due f.here
+tells_faults size text fault f = tells f.members (length text + 1) size nothing text f.rest fault (omega arith) f.prefix f.distinct f.due f.here
 
 -- what a fault has to be
 fault_or : {A : Type 0} → DigestFault → Result A DigestFault → DigestFault
@@ -52,7 +52,7 @@ bind_err (Err d) f e h = inl (same_fault d e h)
 record Faulting (size : ℕ) (values : Values) (text : List ℕ) (fault : DigestFault) : Type 0 where
   members : List Member
   rest : List ℕ
-  front : IsFront members text rest
+  prefix : IsPrefix members text rest
   distinct : AreNew values members
   due : 0 < length (after is_gap rest)
   here : member_of size (values_with values members) (after is_gap rest) ≡ Err fault
@@ -70,7 +70,7 @@ after_member n size values next m text (c ∷ rest) fault ih short b t fresh k h
     record {
       members = m ∷ l.members;
       rest = l.rest;
-      front = (rest, begins, l.front);
+      prefix = (rest, begins, l.prefix);
       distinct = (fresh, subst (λ (v : Values). AreNew v l.members) (sym k) l.distinct);
       due = l.due;
       here = subst (λ (v : Values). member_of size (values_with v l.members) (after is_gap l.rest) ≡ Err fault) (sym k) l.here;
@@ -88,7 +88,7 @@ faulting (suc n) size values text fault short h =
     let some : length list ≢ 0 = grind (arith, nat_tests) in
     ⊎_elim
     (λ (here : member_of size values list ≡ Err fault).
-    record { members = []; rest = text; front = refl; distinct = tt; due = omega (arith, some); here = here })
+    record { members = []; rest = text; prefix = refl; distinct = tt; due = omega (arith, some); here = here })
     (λ (next : (r : Values × List ℕ) × (member_of size values list ≡ Ok r) × (members_of n size r.0 r.1 ≡ Err fault)).
     let r = next.0 in
     let m = member_sound size values list r next.1 in
@@ -100,4 +100,4 @@ faulting (suc n) size values text fault short h =
 pub tells_nothing_else : (size : ℕ) (text : List ℕ) (fault : DigestFault) → list_of size text ≡ Err fault → IsFirstFault size text fault
 tells_nothing_else size text fault h =
     let f = faulting (length text + 1) size nothing text fault (omega arith) h in
-    record { members = f.members; rest = f.rest; front = f.front; distinct = f.distinct; due = f.due; here = f.here }
+    record { members = f.members; rest = f.rest; prefix = f.prefix; distinct = f.distinct; due = f.due; here = f.here }

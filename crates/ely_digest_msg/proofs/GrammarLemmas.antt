@@ -24,27 +24,27 @@ abbrev pub Stops : (ℕ → Bool) → List ℕ → Type 0
 Stops p [] = Unit {0}
 Stops p (c ∷ cs) = p c ≡ false
 
-pub cut_len : (p : ℕ → Bool) (front rest : List ℕ) → list_all p front ≡ true → Stops p rest → prefix_len p (front ++ rest) ≡ length front
+pub cut_len : (p : ℕ → Bool) (prefix rest : List ℕ) → list_all p prefix ≡ true → Stops p rest → prefix_len p (prefix ++ rest) ≡ length prefix
 cut_len p [] [] h s = refl
 cut_len p [] (c ∷ cs) h s = cond-false _ _ _ s
-cut_len p (b ∷ front) rest h s =
-    let parts = and_parts (p b) (list_all p front) h in
-    let one : 1 + length front ≡ suc (length front) = omega arith in
-    cond-true (p b) (1 + prefix_len p (front ++ rest)) 0 parts.0 ∙ ap (λ (n : ℕ). 1 + n) (cut_len p front rest parts.1 s) ∙ one
+cut_len p (b ∷ prefix) rest h s =
+    let parts = and_parts (p b) (list_all p prefix) h in
+    let one : 1 + length prefix ≡ suc (length prefix) = omega arith in
+    cond-true (p b) (1 + prefix_len p (prefix ++ rest)) 0 parts.0 ∙ ap (λ (n : ℕ). 1 + n) (cut_len p prefix rest parts.1 s) ∙ one
 
-pub take_front : (front rest : List ℕ) → take (length front) (front ++ rest) ≡ front
-take_front [] rest = refl
-take_front (b ∷ front) rest = ap (λ (xs : List ℕ). b ∷ xs) (take_front front rest)
+pub take_prefix : (prefix rest : List ℕ) → take (length prefix) (prefix ++ rest) ≡ prefix
+take_prefix [] rest = refl
+take_prefix (b ∷ prefix) rest = ap (λ (xs : List ℕ). b ∷ xs) (take_prefix prefix rest)
 
-pub drop_front : (front rest : List ℕ) → drop (length front) (front ++ rest) ≡ rest
-drop_front [] rest = refl
-drop_front (b ∷ front) rest = drop_front front rest
+pub drop_prefix : (prefix rest : List ℕ) → drop (length prefix) (prefix ++ rest) ≡ rest
+drop_prefix [] rest = refl
+drop_prefix (b ∷ prefix) rest = drop_prefix prefix rest
 
-pub cut_take : (p : ℕ → Bool) (front rest : List ℕ) → list_all p front ≡ true → Stops p rest → take_while p (front ++ rest) ≡ front
-cut_take p front rest h s = ap (λ (n : ℕ). take n (front ++ rest)) (cut_len p front rest h s) ∙ take_front front rest
+pub cut_take : (p : ℕ → Bool) (prefix rest : List ℕ) → list_all p prefix ≡ true → Stops p rest → take_while p (prefix ++ rest) ≡ prefix
+cut_take p prefix rest h s = ap (λ (n : ℕ). take n (prefix ++ rest)) (cut_len p prefix rest h s) ∙ take_prefix prefix rest
 
-pub cut_after : (p : ℕ → Bool) (front rest : List ℕ) → list_all p front ≡ true → Stops p rest → after p (front ++ rest) ≡ rest
-cut_after p front rest h s = ap (λ (n : ℕ). drop n (front ++ rest)) (cut_len p front rest h s) ∙ drop_front front rest
+pub cut_after : (p : ℕ → Bool) (prefix rest : List ℕ) → list_all p prefix ≡ true → Stops p rest → after p (prefix ++ rest) ≡ rest
+cut_after p prefix rest h s = ap (λ (n : ℕ). drop n (prefix ++ rest)) (cut_len p prefix rest h s) ∙ drop_prefix prefix rest
 
 blank_cases : (b : ℕ) → is_blank b ≡ true → (b ≡ 32) ⊎ (b ≡ 9)
 blank_cases b h = grind (arith, nat_tests)

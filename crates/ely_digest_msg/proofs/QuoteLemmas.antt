@@ -162,18 +162,18 @@ read_within text inner raw back value rest n fault same h r b v e =
     ∙ sym (ap (λ (o : Option (List ℕ × List ℕ)). ok_or o fault) h)
     ∙ ap (λ (xs : List ℕ). ok_or (quoted_of xs) fault) same
 
-front_of : Result (List ℕ × List ℕ) DigestFault → List ℕ
-front_of (Ok p) = p.0
-front_of (Err e) = []
+prefix_of : Result (List ℕ × List ℕ) DigestFault → List ℕ
+prefix_of (Ok p) = p.0
+prefix_of (Err e) = []
 
 -- a token holds no escapes
 pub token_same : (size : ℕ) (text token rest : List ℕ) → Ok (token, rest) ≡ token_of size text → unescaped token ≡ token
-unfolding front_of
+unfolding prefix_of
 token_same size text token rest h = ⊎_elim
     (λ (none : eqb (prefix_len is_token text) 0 ≡ true). let no = h ∙ cond-true _ _ _ none in absurd cc)
     (λ (some : eqb (prefix_len is_token text) 0 ≡ false).
     let yes = h ∙ cond-false _ _ _ some in
-    let same : token ≡ take_while is_token text = ap front_of yes in
+    let same : token ≡ take_while is_token text = ap prefix_of yes in
     ap unescaped same ∙ token_plain text ∙ sym same)
     (cases_Bool (eqb (prefix_len is_token text) 0))
 

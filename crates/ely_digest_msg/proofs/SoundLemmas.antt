@@ -42,12 +42,12 @@ if_ok : {A : Type 0} (b : Bool) (x y : A) (e : DigestFault) → cond b (Ok x) (E
 if_ok true x y e h = (refl, same_answer x y h)
 if_ok false x y e h = absurd (no_answer e y h)
 
-all_front : (p : ℕ → Bool) (text : List ℕ) → list_all p (take_while p text) ≡ true
-all_front p [] = refl
-all_front p (b ∷ text) = ⊎_elim
+all_prefix : (p : ℕ → Bool) (text : List ℕ) → list_all p (take_while p text) ≡ true
+all_prefix p [] = refl
+all_prefix p (b ∷ text) = ⊎_elim
     (λ (yes : p b ≡ true).
     ap (list_all p) (take_while-cons p b text ∙ cond-true (p b) (b ∷ take_while p text) [] yes)
-    ∙ (rw yes (all_front p text)))
+    ∙ (rw yes (all_prefix p text)))
     (λ (other : p b ≡ false). ap (list_all p) (take_while-cons p b text ∙ cond-false (p b) (b ∷ take_while p text) [] other))
     (cases_Bool (p b))
 
@@ -61,7 +61,7 @@ token_sound size text t h = ⊎_elim
     let is : (take_while is_token text, after is_token text) ≡ t = same_answer (take_while is_token text, after is_token text) t (sym (cond-false (eqb (prefix_len is_token text) 0) (Err (Token (offset size text))) (Ok (take_while is_token text, after is_token text)) some) ∙ h) in
     let len = length-prefix_len is_token text in
     let pos : 0 < length (take_while is_token text) = grind (arith, nat_tests) in
-    subst (λ (u : List ℕ × List ℕ). IsToken u.0 × (text ≡ u.0 ++ u.1)) is ((pos, all_front is_token text), parted is_token text))
+    subst (λ (u : List ℕ × List ℕ). IsToken u.0 × (text ≡ u.0 ++ u.1)) is ((pos, all_prefix is_token text), parted is_token text))
     (cases_Bool (eqb (prefix_len is_token text) 0))
 
 first_sound : (values : Values) (field got : Option DigestField) → first_time values field ≡ Ok got → IsNew values field × (field ≡ got)
@@ -91,11 +91,11 @@ equals_sound size text rest h =
       before = take_while is_blank text;
       behind = take_while is_blank (drop 1 xs);
       whole = parted is_blank text ∙ ap (λ (ys : List ℕ). take_while is_blank text ++ ys) tail;
-      before_blank = all_front is_blank text;
-      behind_blank = all_front is_blank (drop 1 xs);
+      before_blank = all_prefix is_blank text;
+      behind_blank = all_prefix is_blank (drop 1 xs);
     }
 
-record QuotedFront (text value rest : List ℕ) : Type 0 where
+record QuotedPrefix (text value rest : List ℕ) : Type 0 where
   inner : List ℕ
   whole : text ≡ inner ++ 34 ∷ rest
   quotes : Quotes inner value
@@ -111,14 +111,14 @@ same_some : {A : Type 0} (x y : A) → Some x ≡ Some y → x ≡ y
 unfolding some_or
 same_some x y h = ap (some_or x) h
 
-ended_here : (b : ℕ) (rest : List ℕ) (p : List ℕ × List ℕ) → b ≡ 34 → Some ([], rest) ≡ Some p → QuotedFront (b ∷ rest) p.0 p.1
-ended_here b rest p e h = subst (λ (u : List ℕ × List ℕ). QuotedFront (b ∷ rest) u.0 u.1) (same_some ([], rest) p h) (record { inner = []; whole = ap (λ (n : ℕ). n ∷ rest) e; quotes = none })
+ended_here : (b : ℕ) (rest : List ℕ) (p : List ℕ × List ℕ) → b ≡ 34 → Some ([], rest) ≡ Some p → QuotedPrefix (b ∷ rest) p.0 p.1
+ended_here b rest p e h = subst (λ (u : List ℕ × List ℕ). QuotedPrefix (b ∷ rest) u.0 u.1) (same_some ([], rest) p h) (record { inner = []; whole = ap (λ (n : ℕ). n ∷ rest) e; quotes = none })
 
 with_byte_sound : (b : ℕ) (o : Option (List ℕ × List ℕ)) (p : List ℕ × List ℕ) → with_byte b o ≡ Some p → (q : List ℕ × List ℕ) × (o ≡ Some q) × ((b ∷ q.0, q.1) ≡ p)
 with_byte_sound b None p h = absurd (nothing_read p h)
 with_byte_sound b (Some q) p h = (q, refl, same_some (b ∷ q.0, q.1) p h)
 
-quotes_sound : (text : List ℕ) (p : List ℕ × List ℕ) → quoted_of text ≡ Some p → QuotedFront text p.0 p.1
+quotes_sound : (text : List ℕ) (p : List ℕ × List ℕ) → quoted_of text ≡ Some p → QuotedPrefix text p.0 p.1
 quotes_sound [] p h = absurd (nothing_read p h)
 quotes_sound (b ∷ []) p h = ⊎_elim
     (λ (yes : eqb b 34 ≡ true). ended_here b [] p (grind (arith, nat_tests)) (sym (cond-true (eqb b 34) (Some ([], [])) None yes) ∙ h))
@@ -135,15 +135,15 @@ quotes_sound (b ∷ c ∷ rest) p h =
     (λ (y92 : eqb b 92 ≡ true).
     let w = with_byte_sound c (quoted_of rest) p (sym (cond-true (eqb b 92) escaped other y92) ∙ k) in
     let r = quotes_sound rest w.0 w.1 in
-    subst (λ (u : List ℕ × List ℕ). QuotedFront (b ∷ c ∷ rest) u.0 u.1) w.2 (record { inner = b ∷ c ∷ r.inner; whole = ap (λ (ys : List ℕ). b ∷ c ∷ ys) r.whole; quotes = escape (grind (arith, nat_tests)) r.quotes }))
+    subst (λ (u : List ℕ × List ℕ). QuotedPrefix (b ∷ c ∷ rest) u.0 u.1) w.2 (record { inner = b ∷ c ∷ r.inner; whole = ap (λ (ys : List ℕ). b ∷ c ∷ ys) r.whole; quotes = escape (grind (arith, nat_tests)) r.quotes }))
     (λ (n92 : eqb b 92 ≡ false).
     let w = with_byte_sound b (quoted_of (c ∷ rest)) p (sym (cond-false (eqb b 92) escaped other n92) ∙ k) in
     let r = quotes_sound (c ∷ rest) w.0 w.1 in
-    subst (λ (u : List ℕ × List ℕ). QuotedFront (b ∷ c ∷ rest) u.0 u.1) w.2 (record { inner = b ∷ r.inner; whole = ap (λ (ys : List ℕ). b ∷ ys) r.whole; quotes = plain (grind (arith, nat_tests)) (grind (arith, nat_tests)) r.quotes }))
+    subst (λ (u : List ℕ × List ℕ). QuotedPrefix (b ∷ c ∷ rest) u.0 u.1) w.2 (record { inner = b ∷ r.inner; whole = ap (λ (ys : List ℕ). b ∷ ys) r.whole; quotes = plain (grind (arith, nat_tests)) (grind (arith, nat_tests)) r.quotes }))
     (cases_Bool (eqb b 92)))
     (cases_Bool (eqb b 34))
 
-record ValueFront (text value rest : List ℕ) : Type 0 where
+record ValuePrefix (text value rest : List ℕ) : Type 0 where
   raw : List ℕ
   whole : text ≡ raw ++ rest
   is_value : IsValue raw value
@@ -152,7 +152,7 @@ ok_or_sound : {A : Type 0} (o : Option A) (e : DigestFault) (x : A) → ok_or o 
 ok_or_sound None e x h = absurd (no_answer e x h)
 ok_or_sound (Some y) e x h = ap Some (same_answer y x h)
 
-value_sound : (size : ℕ) (text : List ℕ) (p : List ℕ × List ℕ) → value_of size text ≡ Ok p → ValueFront text p.0 p.1
+value_sound : (size : ℕ) (text : List ℕ) (p : List ℕ × List ℕ) → value_of size text ≡ Ok p → ValuePrefix text p.0 p.1
 value_sound size text p h =
     let quoted = ok_or (quoted_of (drop 1 text)) (Quote (offset size text)) in
     ⊎_elim
@@ -197,7 +197,7 @@ abbrev has_name : ℕ → Values → List ℕ × List ℕ → Result (Values × 
 has_name size values name = first_time values (known name.0) >>= has_equals size values name.1
 
 -- a member that was read, and what follows it
-pub record MemberFront (values : Values) (text : List ℕ) (after_it : Values) (tail : List ℕ) : Type 0 where
+pub record MemberPrefix (values : Values) (text : List ℕ) (after_it : Values) (tail : List ℕ) : Type 0 where
   pub m : Member
   pub member : List ℕ
   pub blanks : List ℕ
@@ -208,7 +208,7 @@ pub record MemberFront (values : Values) (text : List ℕ) (after_it : Values) (
   pub fresh : IsNew values (known m.0)
   pub kept_value : kept (known m.0) m.1 values ≡ after_it
 
-pub member_sound : (size : ℕ) (values : Values) (text : List ℕ) (r : Values × List ℕ) → member_of size values text ≡ Ok r → MemberFront values text r.0 r.1
+pub member_sound : (size : ℕ) (values : Values) (text : List ℕ) (r : Values × List ℕ) → member_of size values text ≡ Ok r → MemberPrefix values text r.0 r.1
 member_sound size values text r h =
     let a = bind_ok (token_of size text) (has_name size values) r h in
     let name = a.0 in
@@ -232,26 +232,26 @@ member_sound size values text r h =
     ∙ ap (λ (xs : List ℕ). q.before ++ 61 ∷ xs) (sym (append_assoc q.behind v.raw rest))
     ∙ sym (append_assoc q.before (61 ∷ (q.behind ++ v.raw)) rest))
     ∙ sym (append_assoc name.0 (q.before ++ 61 ∷ (q.behind ++ v.raw)) rest) in
-    subst (λ (u : Values × List ℕ). MemberFront values text u.0 u.1) is (record {
+    subst (λ (u : Values × List ℕ). MemberPrefix values text u.0 u.1) is (record {
       m = (name.0, value.0);
       member = member;
       blanks = blanks;
       whole = whole;
       is_member = record { before = q.before; behind = q.behind; raw = v.raw; whole = refl; name = t.0; before_blank = q.before_blank; behind_blank = q.behind_blank; value = v.is_value };
-      blanks_all = all_front is_blank value.1;
+      blanks_all = all_prefix is_blank value.1;
       is_tail = w.1;
       fresh = f.0;
       kept_value = ap (λ (o : Option DigestField). kept o value.0 values) f.1;
     })
 
 -- a member that was read behind blanks and commas
-pub begins_with : (values : Values) (text : List ℕ) (next : Values) (tail : List ℕ) (m : MemberFront values (after is_gap text) next tail) → BeginsWith m.m text tail
+pub begins_with : (values : Values) (text : List ℕ) (next : Values) (tail : List ℕ) (m : MemberPrefix values (after is_gap text) next tail) → BeginsWith m.m text tail
 begins_with values text next tail m = record {
   gap = take_while is_gap text;
   member = m.member;
   blanks = m.blanks;
   whole = parted is_gap text ∙ ap (λ (xs : List ℕ). take_while is_gap text ++ xs) m.whole;
-  gap_all = all_front is_gap text;
+  gap_all = all_prefix is_gap text;
   is_member = m.is_member;
   blanks_all = m.blanks_all;
 }
@@ -267,7 +267,7 @@ all_gap : (text : List ℕ) → length (after is_gap text) ≡ 0 → list_all is
 all_gap text h =
     let gone : after is_gap text ≡ [] = drop_all_is (after is_gap text) h in
     let same : text ≡ take_while is_gap text = parted is_gap text ∙ ap (λ (xs : List ℕ). take_while is_gap text ++ xs) gone ∙ append-nil (take_while is_gap text) in
-    subst (λ (xs : List ℕ). list_all is_gap xs ≡ true) (sym same) (all_front is_gap text)
+    subst (λ (xs : List ℕ). list_all is_gap xs ≡ true) (sym same) (all_prefix is_gap text)
   where
     drop_all_is : (xs : List ℕ) → length xs ≡ 0 → xs ≡ []
     drop_all_is [] h = refl

@@ -74,15 +74,15 @@ values_with values [] = values
 values_with values (m ∷ ms) = values_with (kept (known m.0) m.1 values) ms
 
 -- whole members, each with a comma behind it, and what is left of the text behind them
-abbrev pub IsFront : List Member → List ℕ → List ℕ → Type 0
-IsFront [] text rest = text ≡ rest
-IsFront (m ∷ ms) text rest = (more : List ℕ) × BeginsWith m text (44 ∷ more) × IsFront ms more rest
+abbrev pub IsPrefix : List Member → List ℕ → List ℕ → Type 0
+IsPrefix [] text rest = text ≡ rest
+IsPrefix (m ∷ ms) text rest = (more : List ℕ) × BeginsWith m text (44 ∷ more) × IsPrefix ms more rest
 
 -- behind whole members without a known name twice, a further member is due, and has that fault
 pub record IsFirstFault (size : ℕ) (text : List ℕ) (fault : DigestFault) : Type 0 where
   pub members : List Member
   pub rest : List ℕ
-  pub front : IsFront members text rest
+  pub prefix : IsPrefix members text rest
   pub distinct : AreNew nothing members
   pub due : 0 < length (after is_gap rest)
   pub here : member_of size (values_with nothing members) (after is_gap rest) ≡ Err fault

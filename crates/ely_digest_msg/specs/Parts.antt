@@ -23,7 +23,7 @@ marks = codes "!#$%&'*+-.^_`|~"
 abbrev pub is_token : ℕ → Bool
 is_token b = is_ascii_alphanumeric b || list_any (λ c. c == b) marks
 
--- what follows the longest front of bytes that pass
+-- what follows the longest prefix of bytes that pass
 abbrev pub after : (ℕ → Bool) → List ℕ → List ℕ
 after p text = drop (prefix_len p text) text
 

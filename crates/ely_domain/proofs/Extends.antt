@@ -234,7 +234,7 @@ due_are_shown given m k [] = tt
 due_are_shown given m k (t ∷ ts) =
     (due_stands given m k t.event t.outcome, due_are_shown given (step given m t.event).1 (kept_after given m k t.event t.outcome (word_due given m k t.event t.outcome)) ts)
 
--- a history of lines is the front of one of more lines
+-- a history of lines is the prefix of one of more lines
 pub history_on : (given : Given) (rest lines : List ScriptLine) (h : List Told) → IsHistoryOf given lines h → (more : List Told) × IsHistoryOf given (lines ++ rest) (h ++ more)
 history_on given [] lines h is = ([], subst (λ ls. IsHistoryOf given ls (h ++ [])) (sym (append-nil lines)) (subst (IsHistoryOf given lines) (sym (append-nil h)) is))
 history_on given (line ∷ rest) lines h is =

@@ -265,32 +265,32 @@ module _ (given : Given) (m : Machine) (c : ℕ) (rest : Option (List StepWord))
 
 -- ---- over runs
 
--- what is tracked behind the front of a run
-front_tracked : (given : Given) (front : List Taken) (c : ℕ) → IsRun given (first_machine given) front
-    → IsTrackedIn given (machine_after given (first_machine given) front) c (since_open (words_on c front)) (said_of given c front)
-front_tracked given front c run =
-    run_tracked given (first_machine given) front c [] (record { mech = None; pin = None; evidence = None }) run (record { fits = tt; is_said = tt })
+-- what is tracked behind the prefix of a run
+prefix_tracked : (given : Given) (prefix : List Taken) (c : ℕ) → IsRun given (first_machine given) prefix
+    → IsTrackedIn given (machine_after given (first_machine given) prefix) c (since_open (words_on c prefix)) (said_of given c prefix)
+prefix_tracked given prefix c run =
+    run_tracked given (first_machine given) prefix c [] (record { mech = None; pin = None; evidence = None }) run (record { fits = tt; is_said = tt })
 
 pub proved_in_runs : (given : Given) (h : List Taken) → IsRun given (first_machine given) h → IsProvedWhereShown given h
-proved_in_runs given h run front t back c split word on gone =
-    let parts = run_split given (first_machine given) front t back (rw split at run) in
-    let at = check2_at given (machine_after given (first_machine given) front) c (since_open (words_on c front)) (said_of given c front) (front_tracked given front c parts.0) t.event word on in
-    rw (sym parts.1) at (rw (known_is given front parts.0) at at) gone
+proved_in_runs given h run prefix t back c split word on gone =
+    let parts = run_split given (first_machine given) prefix t back (rw split at run) in
+    let at = check2_at given (machine_after given (first_machine given) prefix) c (since_open (words_on c prefix)) (said_of given c prefix) (prefix_tracked given prefix c parts.0) t.event word on in
+    rw (sym parts.1) at (rw (known_is given prefix parts.0) at at) gone
 
 pub authorized_in_runs : (given : Given) (h : List Taken) → IsRun given (first_machine given) h → IsAuthorizedWhereGranted given h
-authorized_in_runs given h run front t back c split word on told =
-    let parts = run_split given (first_machine given) front t back (rw split at run) in
-    let at = authorize_at given (machine_after given (first_machine given) front) c (since_open (words_on c front)) (said_of given c front) (front_tracked given front c parts.0) t.event word on in
-    rw (sym parts.1) at (rw (known_is given front parts.0) at at) told
+authorized_in_runs given h run prefix t back c split word on told =
+    let parts = run_split given (first_machine given) prefix t back (rw split at run) in
+    let at = authorize_at given (machine_after given (first_machine given) prefix) c (since_open (words_on c prefix)) (said_of given c prefix) (prefix_tracked given prefix c parts.0) t.event word on in
+    rw (sym parts.1) at (rw (known_is given prefix parts.0) at at) told
 
 pub established_in_runs : (given : Given) (h : List Taken) → IsRun given (first_machine given) h → IsEstablishedWhereReady h
 unfolding is_ready
-established_in_runs given h run front t back c split word on =
-    let parts = run_split given (first_machine given) front t back (rw split at run) in
-    ap is_established parts.1 ∙ (succeed_at given (machine_after given (first_machine given) front) c (since_open (words_on c front)) (said_of given c front) (front_tracked given front c parts.0) t.event word on).0
+established_in_runs given h run prefix t back c split word on =
+    let parts = run_split given (first_machine given) prefix t back (rw split at run) in
+    ap is_established parts.1 ∙ (succeed_at given (machine_after given (first_machine given) prefix) c (since_open (words_on c prefix)) (said_of given c prefix) (prefix_tracked given prefix c parts.0) t.event word on).0
 
 pub by_right_in_runs : (given : Given) (h : List Taken) → IsRun given (first_machine given) h → IsEstablishedByRight given h
-by_right_in_runs given h run front t back c split word on told =
-    let parts = run_split given (first_machine given) front t back (rw split at run) in
-    let at = (succeed_at given (machine_after given (first_machine given) front) c (since_open (words_on c front)) (said_of given c front) (front_tracked given front c parts.0) t.event word on).1 in
-    rw (sym parts.1) at (rw (known_is given front parts.0) at at) told
+by_right_in_runs given h run prefix t back c split word on told =
+    let parts = run_split given (first_machine given) prefix t back (rw split at run) in
+    let at = (succeed_at given (machine_after given (first_machine given) prefix) c (since_open (words_on c prefix)) (said_of given c prefix) (prefix_tracked given prefix c parts.0) t.event word on).1 in
+    rw (sym parts.1) at (rw (known_is given prefix parts.0) at at) told

@@ -317,8 +317,8 @@ run_tracked given m (t ∷ ts) c ws said run at =
     rw run.0 after
 
 -- a run up to a step, and that step
-pub run_split : (given : Given) (m : Machine) (front : List Taken) (t : Taken) (back : List Taken) → IsRun given m (front ++ t ∷ back)
-    → IsRun given m front × (t.outcome ≡ (step given (machine_after given m front) t.event).0)
+pub run_split : (given : Given) (m : Machine) (prefix : List Taken) (t : Taken) (back : List Taken) → IsRun given m (prefix ++ t ∷ back)
+    → IsRun given m prefix × (t.outcome ≡ (step given (machine_after given m prefix) t.event).0)
 run_split given m [] t back run = (tt, run.0)
 run_split given m (x ∷ xs) t back run =
     let rest = run_split given (step given m x.event).1 xs t back run.1 in

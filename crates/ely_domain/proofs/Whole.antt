@@ -39,7 +39,7 @@ legal_ends given lines ends ends' p [] more legal = more p legal refl refl
 legal_ends given lines ends ends' p (x ∷ xs) more legal =
     (legal.0, legal.1, legal_ends given lines ends ends' (point_after given p legal.0 x) xs more legal.2)
 
--- what is found in a front is found in the whole
+-- what is found in a prefix is found in the whole
 found_on : (xs ys : List ScriptLine) (i : ℕ) (l : ScriptLine) → slice_get xs i ≡ Some l → slice_get (xs ++ ys) i ≡ Some l
 found_on [] ys i l h = cc
 found_on (x ∷ xs) ys zero l h = h

@@ -76,6 +76,6 @@ is_established _ = false
 
 -- wherever a succeed of c stands, its outcome is established exactly where c is ready
 abbrev pub IsEstablishedWhereReady : List Taken → Type 0
-IsEstablishedWhereReady h = (front : List Taken) (t : Taken) (back : List Taken) (c : ℕ)
-    → h ≡ front ++ t ∷ back → word_of t.event ≡ words.Succeed → is_on c t.event ≡ true
-    → is_established t.outcome ≡ is_ready c front
+IsEstablishedWhereReady h = (prefix : List Taken) (t : Taken) (back : List Taken) (c : ℕ)
+    → h ≡ prefix ++ t ∷ back → word_of t.event ≡ words.Succeed → is_on c t.event ≡ true
+    → is_established t.outcome ≡ is_ready c prefix

@@ -111,15 +111,15 @@ is_state _ = false
 -- A check of c that isn't gone is passed exactly where the evidence of the last accepted check1 of c proves the key that
 -- the identity of the version pinned by its last accepted name1 has for its mechanism.
 abbrev pub IsProvedWhereShown : Given → List Taken → Type 0
-IsProvedWhereShown given h = (front : List Taken) (t : Taken) (back : List Taken) (c : ℕ)
-    → h ≡ front ++ t ∷ back → word_of t.event ≡ words.Check2 → is_on c t.event ≡ true → is_gone t.outcome ≡ false
-    → is_accepted t.outcome ≡ has_shown (known_by given front) (said_of given c front)
+IsProvedWhereShown given h = (prefix : List Taken) (t : Taken) (back : List Taken) (c : ℕ)
+    → h ≡ prefix ++ t ∷ back → word_of t.event ≡ words.Check2 → is_on c t.event ≡ true → is_gone t.outcome ≡ false
+    → is_accepted t.outcome ≡ has_shown (known_by given prefix) (said_of given c prefix)
 
 -- An authorize of c that isn't refused with a state is accepted exactly where the pinned version grants the permission.
 abbrev pub IsAuthorizedWhereGranted : Given → List Taken → Type 0
-IsAuthorizedWhereGranted given h = (front : List Taken) (t : Taken) (back : List Taken) (c : ℕ)
-    → h ≡ front ++ t ∷ back → word_of t.event ≡ words.Authorize → is_on c t.event ≡ true → is_state t.outcome ≡ false
-    → is_accepted t.outcome ≡ is_granted (known_by given front) (last_on (pinned_by given) c front)
+IsAuthorizedWhereGranted given h = (prefix : List Taken) (t : Taken) (back : List Taken) (c : ℕ)
+    → h ≡ prefix ++ t ∷ back → word_of t.event ≡ words.Authorize → is_on c t.event ≡ true → is_state t.outcome ≡ false
+    → is_accepted t.outcome ≡ is_granted (known_by given prefix) (last_on (pinned_by given) c prefix)
 
 -- what is established: the version and the place of the pin, and the roles of that version
 abbrev pub is_pinned : Known → Option Pinned → Outcome → Type 0
@@ -135,6 +135,6 @@ pub record HasRight (known : Known) (said : Said) (outcome : Outcome) : Type 0 w
 
 -- Whoever a succeed of c establishes has the right to it.
 abbrev pub IsEstablishedByRight : Given → List Taken → Type 0
-IsEstablishedByRight given h = (front : List Taken) (t : Taken) (back : List Taken) (c : ℕ)
-    → h ≡ front ++ t ∷ back → word_of t.event ≡ words.Succeed → is_on c t.event ≡ true → is_established t.outcome ≡ true
-    → HasRight (known_by given front) (said_of given c front) t.outcome
+IsEstablishedByRight given h = (prefix : List Taken) (t : Taken) (back : List Taken) (c : ℕ)
+    → h ≡ prefix ++ t ∷ back → word_of t.event ≡ words.Succeed → is_on c t.event ≡ true → is_established t.outcome ≡ true
+    → HasRight (known_by given prefix) (said_of given c prefix) t.outcome

@@ -1,8 +1,7 @@
 //! Laws over the definitions of machines and histories. They compute nothing: each contract is a theorem.
 
-ghost use Rattle.std.specs.Prelude.{◌≡◌, ℕ, List, length};
+ghost use Rattle.std.specs.Prelude.{List};
 ghost use Rattle.ely_domain.specs.Given.{Given};
-ghost use Rattle.ely_domain.specs.Headline.{IsHistoryOf};
 ghost use Rattle.ely_domain.specs.Histories.{IsRun, IsEstablishedWhereReady};
 ghost use Rattle.ely_domain.specs.Lines.{Taken};
 ghost use Rattle.ely_domain.specs.Machine.{first_machine};

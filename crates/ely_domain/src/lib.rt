@@ -1,6 +1,6 @@
 //! The security domain: a machine over a journal of edits and the logins that are live. Its definitions say what each step
 //! answers, computed anew from the list of edits, which histories of a script are legal, when a login is ready to succeed,
-//! and who gets in. It keeps tables, pinned rows and derived keys beside that, of which no answer depends.
+//! and who gets in. It keeps tables, pinned rows and derived keys beside that, on which no answer depends.
 #![tactic(auto)]
 
 mod checking;

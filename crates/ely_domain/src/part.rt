@@ -89,32 +89,12 @@ pub fn actor_of(line: &Result<Command, LineError>) -> u32
     }
 }
 
-/// Equal bytes, where there are some.
-fn copy_bytes(alloc: Global, bytes: &Option<Bytes>) -> Result<Option<Bytes>, NoMemory>
-    ensures { IfOk result (λ copy. copy ≡ bytes.now) }
-{
-    match bytes {
-        None => Ok(None),
-        Some(bytes) => Ok(Some(bytes.copy(alloc)?)),
-    }
-}
-
-/// An equal name, where there is one.
-fn copy_name(alloc: Global, name: &Option<Name>) -> Result<Option<Name>, NoMemory>
-    ensures { IfOk result (λ copy. copy ≡ name.now) }
-{
-    match name {
-        None => Ok(None),
-        Some(name) => Ok(Some(name.copy(alloc)?)),
-    }
-}
-
 /// Who a PLAIN message says that it is from.
 fn plain_claim(alloc: Global, message: &PlainMsg) -> Result<Claim, NoMemory>
     ensures { IfOk result (λ claim. claim ≡ Claim.Plain message.now.authzid message.now.name) }
 {
     Ok(Claim::Plain {
-        authzid: copy_name(alloc, &message.authzid)?,
+        authzid: Name::copy_option(alloc, &message.authzid)?,
         name: message.name.copy(alloc)?,
     })
 }
@@ -144,7 +124,7 @@ pub fn event_of(
         Part::Begin(ctx, mech, nonce) => Ok(Some(Event::Begin {
             ctx,
             mech,
-            nonce: copy_bytes(alloc, nonce)?,
+            nonce: Bytes::copy_option(alloc, nonce)?,
         })),
         Part::PlainName(ctx, message) => Ok(Some(Event::Name1 {
             ctx,

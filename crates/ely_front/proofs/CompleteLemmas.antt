@@ -18,10 +18,10 @@ use Rattle.ely_front.specs.Call.{Replays, HasCauses, IsComplete, IsWithinLimits}
 same_head : (x y : List ℕ) (xs ys : List (List ℕ)) → x ∷ xs ≡ y ∷ ys → x ≡ y
 same_head x y xs ys h = cc
 
--- bytes that were given are a front of all
-front_of_all : (bytes gave : List ℕ) (left : Option (List ℕ)) → Consumes (Some bytes) left gave → (rest : List ℕ) × (left ≡ Some rest) × (bytes ≡ gave ++ rest)
-front_of_all bytes gave None took = absurd took
-front_of_all bytes gave (Some rest) took = (rest, refl, took)
+-- bytes that were given are a prefix of all
+prefix_of_all : (bytes gave : List ℕ) (left : Option (List ℕ)) → Consumes (Some bytes) left gave → (rest : List ℕ) × (left ≡ Some rest) × (bytes ≡ gave ++ rest)
+prefix_of_all bytes gave None took = absurd took
+prefix_of_all bytes gave (Some rest) took = (rest, refl, took)
 
 -- the only line of bytes without an LF, where there is a line
 only_line : (first : List ℕ) (line : List ℕ) (lines : List (List ℕ)) → HasNoLf first → lines_of first ≡ line ∷ lines → first ≡ line
@@ -31,7 +31,7 @@ only_line (x ∷ xs) line lines none h = same_head (x ∷ xs) line [] lines (sym
 -- the first line that was given is the first of all
 first_of_all : (bytes gave : List ℕ) (input : Input) (first line : List ℕ) (lines : List (List ℕ)) → Consumes (Some bytes) input.left gave → IsFirstLine gave input first → lines_of bytes ≡ line ∷ lines → first ≡ line
 first_of_all bytes gave input first line lines took is h =
-    let f = front_of_all bytes gave input.left took in
+    let f = prefix_of_all bytes gave input.left took in
     ⊎_elim
     (λ (g : (rest : List ℕ) × (gave ≡ first ++ 10 ∷ rest)).
     let all : bytes ≡ first ++ 10 ∷ (g.0 ++ f.0) = f.2 ∙ (ap (λ xs. xs ++ f.0) g.1 ∙ append_assoc first (10 ∷ g.0) f.0) in
@@ -45,7 +45,7 @@ first_of_all bytes gave input first line lines took is h =
 -- at the end of the input all was given
 all_given : (bytes gave : List ℕ) (left : Option (List ℕ)) → Consumes (Some bytes) left gave → IsAtEnd left → gave ≡ bytes
 all_given bytes gave left took at_end =
-    let f = front_of_all bytes gave left took in
+    let f = prefix_of_all bytes gave left took in
     let none : f.0 ≡ [] = subst IsAtEnd f.1 at_end in
     sym (f.2 ∙ (ap (λ xs. gave ++ xs) none ∙ append-nil gave))
 
@@ -61,7 +61,7 @@ module _ (bytes gave : List ℕ) (before after : Moment) (status : ℕ) (within 
   by_ending ending.Read is ends = absurd (source (causes.read is))
   by_ending ending.Write is ends = absurd (sink (causes.write is))
   by_ending ending.BytesLimit is ends =
-      let f = front_of_all bytes gave after.input.left took in
+      let f = prefix_of_all bytes gave after.input.left took in
       absurd (omega (arith, within.few, ends.1.0, ap length f.2, length-append gave f.0))
   by_ending ending.Config is ends =
       let says = ends.1 in

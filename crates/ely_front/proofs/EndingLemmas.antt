@@ -4,11 +4,11 @@ use Rattle.std.proofs.lemmas.List.{map-append}
 use Rattle.std.proofs.lemmas.Bool.{cases_lt}
 use Rattle.std.proofs.KnownBytes.{Appends-trans}
 use Rattle.std.specs.Io.KnownBytes.{Appends}
-use Rattle.ely_io.specs.Causes.{AppendsFront}
+use Rattle.ely_io.specs.Causes.{AppendsPrefix}
 use Rattle.ely_io.specs.Streams.{Output}
 use Rattle.ely_io.specs.Lines.{whole_lines}
 use Rattle.ely_io.specs.Reading.{most}
-use Rattle.ely_io.proofs.Fronts.{front_after, front_of_more, front_whole}
+use Rattle.ely_io.proofs.Prefixes.{prefix_after, prefix_of_more, prefix_whole}
 use Rattle.ely_script.specs.Lines.{read_of}
 use Rattle.ely_script.specs.Text.{text_from}
 use Rattle.ely_domain.specs.Given.{Given}
@@ -23,7 +23,7 @@ use Rattle.ely_front.specs.Lines.{script_of, text_of, IsPrinted}
 use Rattle.ely_front.specs.Ending.{Ends, Says, Closes, IsCutShort, bytes_limit_text}
 use Rattle.ely_front.proofs.AnswerLemmas.{text_of-append}
 
--- the text of a history of lines is a front of what is printed of more lines
+-- the text of a history of lines is a prefix of what is printed of more lines
 pub printed_on : (given : Given) (first : List ℕ) (ls rest : List (List ℕ)) (h : List Told) → Configures first given → IsHistoryOf given (script_of ls) h → (more : List ℕ) × IsPrinted (first ∷ (ls ++ rest)) (text_of h ++ more)
 printed_on given first ls rest h configures is =
     let on = history_on given (script_of rest) (script_of ls) h is in (
@@ -35,29 +35,29 @@ printed_on given first ls rest h configures is =
       ),
     )
 
--- a front of what is printed of the lines whose LF was given
-pub cut : (gave : List ℕ) (before after : Moment) (front more : List ℕ) → length gave ≤ most → IsPrinted (whole_lines gave) (front ++ more) → AppendsFront before.output.held after.output.held front → IsCutShort gave before after
-cut gave before after front more few printed wrote =
-    let longer = front_of_more before.output.held after.output.held front more wrote in
+-- a prefix of what is printed of the lines whose LF was given
+pub cut : (gave : List ℕ) (before after : Moment) (prefix more : List ℕ) → length gave ≤ most → IsPrinted (whole_lines gave) (prefix ++ more) → AppendsPrefix before.output.held after.output.held prefix → IsCutShort gave before after
+cut gave before after prefix more few printed wrote =
+    let longer = prefix_of_more before.output.held after.output.held prefix more wrote in
     ⊎_elim
-    (λ (below : length gave < most). inr (ending.Read, front ++ more, (below, printed), longer))
+    (λ (below : length gave < most). inr (ending.Read, prefix ++ more, (below, printed), longer))
     (λ (above : most ≤ length gave).
     let all : length gave ≡ most = omega (arith, above, few) in
-    inr (ending.BytesLimit, (front ++ more) ++ bytes_limit_text, (all, front ++ more, printed, refl), front_of_more before.output.held after.output.held (front ++ more) bytes_limit_text longer))
+    inr (ending.BytesLimit, (prefix ++ more) ++ bytes_limit_text, (all, prefix ++ more, printed, refl), prefix_of_more before.output.held after.output.held (prefix ++ more) bytes_limit_text longer))
     (cases_lt (length gave) most)
 
 -- bytes were written, and then a text that belongs to an ending
 pub closes_behind : (a b c : Output) (xs ys : List ℕ) (e result : Ending) → Appends a.held b.held xs → Closes b c ys e result → Closes a c (xs ++ ys) e result
 closes_behind a b c xs ys e result wrote closes = ⊎_elim
     (λ (h : (result ≡ e) × Appends b.held c.held ys). inl (h.0, Appends-trans a.held b.held c.held xs ys wrote h.1))
-    (λ (h : (result ≡ ending.Write) × AppendsFront b.held c.held ys). inr (h.0, front_after a.held b.held c.held xs ys wrote h.1))
+    (λ (h : (result ≡ ending.Write) × AppendsPrefix b.held c.held ys). inr (h.0, prefix_after a.held b.held c.held xs ys wrote h.1))
     closes
 
 -- a text that belongs to an ending was written, or the sink failed
 pub closed : (gave : List ℕ) (before after : Moment) (e result : Ending) (said : List ℕ) → (e ≡ ending.Done → ⊥) → Says gave after.input e said → Closes before.output after.output said e result → Ends gave before after result
 closed gave before after e result said other says closes = ⊎_elim
     (λ (h : (result ≡ e) × Appends before.output.held after.output.held said). subst (Ends gave before after) (sym h.0) (whole e other says h.1))
-    (λ (h : (result ≡ ending.Write) × AppendsFront before.output.held after.output.held said). subst (Ends gave before after) (sym h.0) (inr (e, said, says, h.1)))
+    (λ (h : (result ≡ ending.Write) × AppendsPrefix before.output.held after.output.held said). subst (Ends gave before after) (sym h.0) (inr (e, said, says, h.1)))
     closes
   where
     whole : (e : Ending) → (e ≡ ending.Done → ⊥) → Says gave after.input e said → Appends before.output.held after.output.held said → Ends gave before after e
@@ -70,9 +70,9 @@ closed gave before after e result said other says closes = ⊎_elim
     whole ending.ConfigLimit other s w = (said, s, w)
     whole ending.BytesLimit other s w = (said, s, w)
 
--- memory ran out, and a front of what is printed was written, or the sink failed
-pub ran_out : (gave : List ℕ) (before after : Moment) (result : Ending) (front more : List ℕ) → length gave ≤ most → IsPrinted (whole_lines gave) (front ++ more) → Closes before.output after.output front ending.NoMemory result → Ends gave before after result
-ran_out gave before after result front more few printed closes = ⊎_elim
-    (λ (h : (result ≡ ending.NoMemory) × Appends before.output.held after.output.held front). subst (Ends gave before after) (sym h.0) (cut gave before after front more few printed (front_whole before.output.held after.output.held front h.1)))
-    (λ (h : (result ≡ ending.Write) × AppendsFront before.output.held after.output.held front). subst (Ends gave before after) (sym h.0) (cut gave before after front more few printed h.1))
+-- memory ran out, and a prefix of what is printed was written, or the sink failed
+pub ran_out : (gave : List ℕ) (before after : Moment) (result : Ending) (prefix more : List ℕ) → length gave ≤ most → IsPrinted (whole_lines gave) (prefix ++ more) → Closes before.output after.output prefix ending.NoMemory result → Ends gave before after result
+ran_out gave before after result prefix more few printed closes = ⊎_elim
+    (λ (h : (result ≡ ending.NoMemory) × Appends before.output.held after.output.held prefix). subst (Ends gave before after) (sym h.0) (cut gave before after prefix more few printed (prefix_whole before.output.held after.output.held prefix h.1)))
+    (λ (h : (result ≡ ending.Write) × AppendsPrefix before.output.held after.output.held prefix). subst (Ends gave before after) (sym h.0) (cut gave before after prefix more few printed h.1))
     closes

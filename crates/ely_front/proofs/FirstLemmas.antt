@@ -10,7 +10,7 @@ use Rattle.ely_io.specs.declared.line.Line.TheVariants.{End, Text, TooLong}
 use Rattle.ely_io.specs.declared.line.LineFault.{LineFault}
 use Rattle.ely_io.specs.declared.line.LineFault.TheVariants.{Read as ReadFault, Spent as SpentFault}
 use Rattle.ely_io.specs.Streams.{Input, Output}
-use Rattle.ely_io.specs.Causes.{AppendsFront}
+use Rattle.ely_io.specs.Causes.{AppendsPrefix}
 use Rattle.ely_io.specs.Lines.{HasNoLf, lines_of, whole_lines}
 use Rattle.ely_io.specs.Reading.{Reader, new_reader, most, IsGivenAt, GivesLine, Next, Counts}
 use Rattle.ely_io.proofs.LineLaws.{lines_of-line, lines_of-last, whole_lines-line, whole_lines-none}
@@ -39,7 +39,7 @@ printed_none bytes none = subst (λ ls. IsPrinted ls []) (sym (whole_lines-none 
 nothing : (a b : Output) (e end : Ending) → Closes a b [] e end → Appends a.held b.held []
 nothing a b e end closes = ⊎_elim
     (λ (h : (end ≡ e) × Appends a.held b.held []). h.1)
-    (λ (h : (end ≡ ending.Write) × AppendsFront a.held b.held []). subst (Appends a.held b.held) (take-nil h.1.0) h.1.2)
+    (λ (h : (end ≡ ending.Write) × AppendsPrefix a.held b.held []). subst (Appends a.held b.held) (take-nil h.1.0) h.1.2)
     closes
 
 -- the reader refused the first line
@@ -49,7 +49,7 @@ stopped_at before after out out' steps r OutOfMemory end n counts closes = (n.0,
     short : Ends n.0 (at before out steps) (at after out' steps) end
     short = ⊎_elim
         (λ (h : (end ≡ ending.NoMemory) × Appends out.held out'.held []). subst (Ends n.0 (at before out steps) (at after out' steps)) (sym h.0) (inl (nothing out out' ending.NoMemory end closes)))
-        (λ (h : (end ≡ ending.Write) × AppendsFront out.held out'.held []). subst (Ends n.0 (at before out steps) (at after out' steps)) (sym h.0) (inl (nothing out out' ending.NoMemory end closes)))
+        (λ (h : (end ≡ ending.Write) × AppendsPrefix out.held out'.held []). subst (Ends n.0 (at before out steps) (at after out' steps)) (sym h.0) (inl (nothing out out' ending.NoMemory end closes)))
         closes
 stopped_at before after out out' steps r (Fault ReadFault) end n counts closes = (
   n.0,

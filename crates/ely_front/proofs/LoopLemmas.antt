@@ -14,11 +14,11 @@ use Rattle.ely_io.specs.declared.line.Line.TheVariants.{End, Text, TooLong}
 use Rattle.ely_io.specs.declared.line.LineFault.{LineFault}
 use Rattle.ely_io.specs.declared.line.LineFault.TheVariants.{Read as ReadFault, Spent as SpentFault}
 use Rattle.ely_io.specs.Streams.{Input, Output}
-use Rattle.ely_io.specs.Causes.{Rose, AppendsFront}
+use Rattle.ely_io.specs.Causes.{Rose, AppendsPrefix}
 use Rattle.ely_io.specs.Lines.{HasNoLf, has_lf, lines_of, whole_lines}
 use Rattle.ely_io.specs.Reading.{Reader, most, IsGiven, IsGivenAt, GivesLine, Next, Counts}
 use Rattle.ely_io.proofs.LineLaws.{lines_of-line, lines_of-last, whole_lines-line, whole_lines-none}
-use Rattle.ely_io.proofs.Fronts.{front_after}
+use Rattle.ely_io.proofs.Prefixes.{prefix_after}
 use Rattle.ely_script.specs.declared.limits.TheConstants.{MAX_LINE_BYTES}
 use Rattle.ely_script.specs.Lines.{ScriptLine, read_of, of_words, too_long}
 use Rattle.ely_domain.specs.Headline.{IsHistoryOf}
@@ -152,7 +152,7 @@ module _ (start now : Moment) (reader new : Reader) (replay replay' : Replay) (o
   text_now : text_of (s.history ++ a.made) ≡ s.written ++ out'
   text_now = a.text_is ∙ (ap (λ xs. xs ++ a.said) s.text_is ∙ (append_assoc s.written out a.said ∙ ap (λ xs. s.written ++ xs) (sym a.collected)))
 
-  -- a front of what is collected was written
+  -- a prefix of what is collected was written
   written_on : (output : Output) (rest : List ℕ) (more : Bool) (w : WritesOn now.output output out' rest more) → Appends start.output.held output.held (s.written ++ w.written)
   written_on output rest more w = Appends-trans start.output.held now.output.held output.held s.written w.written s.is_written w.appended
 
@@ -247,7 +247,7 @@ module _ (start now : Moment) (reader new : Reader) (replay replay' : Replay) (o
       )
 
   -- the sink failed
-  cut_off : (b : Bool) → new.ended ≡ b → (output : Output) → AppendsFront start.output.held output.held (text_of (s.history ++ a.made)) → IsCutShort (s.gave ++ n.0) start (at after output steps)
+  cut_off : (b : Bool) → new.ended ≡ b → (output : Output) → AppendsPrefix start.output.held output.held (text_of (s.history ++ a.made)) → IsCutShort (s.gave ++ n.0) start (at after output steps)
   cut_off true ended output wrote =
       let l = last_by reader new n.0 now.input after line ended n.3 in
       let below : length (s.gave ++ n.0) < most = omega (arith, count_on start now reader new replay out after (Ok line) s n counts, l.few) in
@@ -259,13 +259,13 @@ module _ (start now : Moment) (reader new : Reader) (replay replay' : Replay) (o
       let is = ap whole_lines (sym (append-nil (s.gave ++ n.0))) ∙ whole_on g [] in
       cut (s.gave ++ n.0) start (at after output steps) (text_of (s.history ++ a.made)) on.0 (few_on start now reader new replay out after (Ok line) s n counts) (subst (λ ls. IsPrinted ls (text_of (s.history ++ a.made) ++ on.0)) (sym is) on.1) wrote
 
-  pub broke : (output : Output) → AppendsFront now.output.held output.held out' → EndsAs start (at after output steps) ending.Write
+  pub broke : (output : Output) → AppendsPrefix now.output.held output.held out' → EndsAs start (at after output steps) ending.Write
   broke output wrote =
-      let front : AppendsFront start.output.held output.held (text_of (s.history ++ a.made)) = subst (AppendsFront start.output.held output.held) (sym text_now) (front_after start.output.held now.output.held output.held s.written out' s.is_written wrote) in (
+      let prefix : AppendsPrefix start.output.held output.held (text_of (s.history ++ a.made)) = subst (AppendsPrefix start.output.held output.held) (sym text_now) (prefix_after start.output.held now.output.held output.held s.written out' s.is_written wrote) in (
         s.gave ++ n.0,
         took_on start now reader new replay out after (Ok line) s n counts,
         few_on start now reader new replay out after (Ok line) s n counts,
-        cut_off new.ended refl output front,
+        cut_off new.ended refl output prefix,
       )
 
 -- there is room for one more line
@@ -278,6 +278,6 @@ has_room start now reader replay out s =
 pub read_rose : (old new : Reader) (before after : Input) (a b : Output) (said : List ℕ) (refused : Refused LineFault) (end : Ending) → Next MAX_LINE_BYTES old new before after (Err refused) → Closes a b said (stop_ending refused) end → end ≡ ending.Read → Rose before.faults after.faults
 read_rose old new before after a b said (Fault ReadFault) end n closes is = n.3.1
 read_rose old new before after a b said OutOfMemory end n closes is =
-    ⊎_elim (λ (h : (end ≡ ending.NoMemory) × Appends a.held b.held said). absurd (cc)) (λ (h : (end ≡ ending.Write) × AppendsFront a.held b.held said). absurd (cc)) closes
+    ⊎_elim (λ (h : (end ≡ ending.NoMemory) × Appends a.held b.held said). absurd (cc)) (λ (h : (end ≡ ending.Write) × AppendsPrefix a.held b.held said). absurd (cc)) closes
 read_rose old new before after a b said (Fault SpentFault) end n closes is =
-    ⊎_elim (λ (h : (end ≡ ending.BytesLimit) × Appends a.held b.held said). absurd (cc)) (λ (h : (end ≡ ending.Write) × AppendsFront a.held b.held said). absurd (cc)) closes
+    ⊎_elim (λ (h : (end ≡ ending.BytesLimit) × Appends a.held b.held said). absurd (cc)) (λ (h : (end ≡ ending.Write) × AppendsPrefix a.held b.held said). absurd (cc)) closes

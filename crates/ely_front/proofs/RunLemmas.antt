@@ -55,7 +55,7 @@ run_nothing given m carried = refl
 
 -- ---- the parts that are left
 
--- where there is a part at a place, it is the first from there on
+-- where there is a part at an index, it is the first from there on
 here_suc : (xs : List Part) (i : ℕ) (p : Part) → Some p ≡ slice_get xs i → drop i xs ≡ p ∷ drop (suc i) xs
 here_suc [] i p h = absurd cc
 here_suc (x ∷ xs) zero p h =
@@ -73,7 +73,7 @@ none_here [] (suc i) h = refl
 none_here (x ∷ xs) zero h = absurd cc
 none_here (x ∷ xs) (suc i) h = none_here xs i h
 
--- the place of a part is below the count of them
+-- the index of a part is below the count of them
 pub place_below : (xs : List Part) (i : ℕ) (p : Part) → Some p ≡ slice_get xs i → i < length xs
 place_below [] i p h = absurd cc
 place_below (x ∷ xs) zero p h = omega arith
@@ -165,10 +165,10 @@ module _ (old : Seen) (carried : Option ℕ) (left : List Part) (part : Part) (r
   -- nothing was made, or the first step was
   pub stops_first : (m' : Machine) → (m' ≡ old.machine) ⊎ (m' ≡ (step old.given old.machine event).1) → StopsIn old.given old.machine m' (run_parts old.given old.machine carried left)
   stops_first m' stood = ⊎_elim
-      (λ (h : m' ≡ old.machine). record { front = []; back = (run_parts old.given old.machine carried left).0; are = refl; machine = h })
+      (λ (h : m' ≡ old.machine). record { prefix = []; back = (run_parts old.given old.machine carried left).0; are = refl; machine = h })
       (λ (h : m' ≡ (step old.given old.machine event).1).
       let first = run_first old.given old.machine carried part rest event is in
-      record { front = taken old.given old.machine event ∷ []; back = first.0; are = rw here first.1; machine = h })
+      record { prefix = taken old.given old.machine event ∷ []; back = first.0; are = rw here first.1; machine = h })
       stood
 
   -- the first step was made and accepted, and some of those behind it
@@ -179,7 +179,7 @@ module _ (old : Seen) (carried : Option ℕ) (left : List Part) (part : Part) (r
       let all : (run_parts old.given old.machine carried left).0 ≡ taken old.given old.machine event ∷ (run_parts old.given (step old.given old.machine event).1 (carried_after carried event (step old.given old.machine event)) rest).0 =
       rw here (ap (λ (r : Ran). r.0) (run_more old.given old.machine carried part rest event is accepted)) in
       record {
-        front = taken old.given old.machine event ∷ s.front;
+        prefix = taken old.given old.machine event ∷ s.prefix;
         back = s.back;
         are = all ∙ ap (λ ts. taken old.given old.machine event ∷ ts) s.are;
         machine = s.machine;
@@ -217,7 +217,7 @@ pub not_false : (b : Bool) → not b ≡ false → b ≡ true
 not_false true h = refl
 not_false false h = sym h
 
--- ---- what is made from a place on leads to the whole line
+-- ---- what is made from an index on leads to the whole line
 
 -- From here on this is left of all: whatever makes it, stops in it or pays for it does so for all.
 pub record LeadsOn (first now : Seen) (actor : ℕ) (all left : Ran) (start made : List Entry) (before paid : ℕ) : Type 0 where
@@ -225,41 +225,41 @@ pub record LeadsOn (first now : Seen) (actor : ℕ) (all left : Ran) (start made
   pub stops : (m : Machine) → StopsIn now.given now.machine m left → StopsIn first.given first.machine m all
   pub pays : (after : ℕ) → RoseBy paid after (cost_from now.given now.machine left.0) → RoseBy before after (cost_from first.given first.machine all.0)
 
-module _ (first now : Seen) (actor : ℕ) (line : ScriptLine) (all : Ran) (start made : List Entry) (before paid : ℕ) (carried : Option ℕ) (place : ℕ)
-    (on : LeadsOn first now actor all (run_parts now.given now.machine carried (drop place (parts_of line))) start made before paid) where
+module _ (first now : Seen) (actor : ℕ) (line : ScriptLine) (all : Ran) (start made : List Entry) (before paid : ℕ) (carried : Option ℕ) (index : ℕ)
+    (on : LeadsOn first now actor all (run_parts now.given now.machine carried (drop index (parts_of line))) start made before paid) where
   -- behind the last part nothing is left
-  pub no_part : None ≡ slice_get (parts_of line) place → Makes first now actor all start made
+  pub no_part : None ≡ slice_get (parts_of line) index → Makes first now actor all start made
   no_part none =
-      let left : run_parts now.given now.machine carried (drop place (parts_of line)) ≡ ([], now.machine) = rw (none_here (parts_of line) place none) (run_nothing now.given now.machine carried) in
+      let left : run_parts now.given now.machine carried (drop index (parts_of line)) ≡ ([], now.machine) = rw (none_here (parts_of line) index none) (run_nothing now.given now.machine carried) in
       on.makes now made (rw left (makes_nothing now actor made))
 
-  module _ (part : Part) (found : Some part ≡ slice_get (parts_of line) place) where
-    here : drop place (parts_of line) ≡ part ∷ drop (place + 1) (parts_of line)
-    here = part_here (parts_of line) place part found
+  module _ (part : Part) (found : Some part ≡ slice_get (parts_of line) index) where
+    here : drop index (parts_of line) ≡ part ∷ drop (index + 1) (parts_of line)
+    here = part_here (parts_of line) index part found
 
     pub no_event : event_of part carried ≡ None → Makes first now actor all start made
     no_event none =
-        let left : run_parts now.given now.machine carried (drop place (parts_of line)) ≡ ([], now.machine) = rw here (run_none now.given now.machine carried part (drop (place + 1) (parts_of line)) none) in
+        let left : run_parts now.given now.machine carried (drop index (parts_of line)) ≡ ([], now.machine) = rw here (run_none now.given now.machine carried part (drop (index + 1) (parts_of line)) none) in
         on.makes now made (rw left (makes_nothing now actor made))
 
     module _ (event : Event) (is : event_of part carried ≡ Some event) where
       pub breaks : (m : Machine) → (m ≡ now.machine) ⊎ (m ≡ (step now.given now.machine event).1) → StopsIn first.given first.machine m all
-      breaks m stood = on.stops m (stops_first now carried (drop place (parts_of line)) part (drop (place + 1) (parts_of line)) event here is m stood)
+      breaks m stood = on.stops m (stops_first now carried (drop index (parts_of line)) part (drop (index + 1) (parts_of line)) event here is m stood)
 
       pub pays_first : (after : ℕ) → RoseBy paid after (step_cost now.given now.machine event) → RoseBy before after (cost_from first.given first.machine all.0)
-      pays_first after rose = on.pays after (rose_first now carried (drop place (parts_of line)) part (drop (place + 1) (parts_of line)) event here is paid after rose)
+      pays_first after rose = on.pays after (rose_first now carried (drop index (parts_of line)) part (drop (index + 1) (parts_of line)) event here is paid after rose)
 
       -- the step was refused
       pub ends : (new : Seen) (after : List Entry) (accepted : Bool) → accepted ≡ is_accepted (step now.given now.machine event).0 → not accepted ≡ true
           → MakesStep now new actor event made after → Makes first new actor all start after
       ends new after accepted accepted_is refused s =
-          on.makes new after (made_last now carried (drop place (parts_of line)) part (drop (place + 1) (parts_of line)) event here is new actor made after (sym accepted_is ∙ not_true accepted refused) s)
+          on.makes new after (made_last now carried (drop index (parts_of line)) part (drop (index + 1) (parts_of line)) event here is new actor made after (sym accepted_is ∙ not_true accepted refused) s)
 
       -- the step was accepted
       module _ (mid : Seen) (between : List Entry) (later : ℕ) (carried' : Option ℕ) (same : mid.given ≡ now.given) (accepted : is_accepted (step now.given now.machine event).0 ≡ true)
           (s : MakesStep now mid actor event made between) (rose : RoseBy paid later (step_cost now.given now.machine event)) (carried_is : carried' ≡ carried_after carried event (step now.given now.machine event)) where
         abbrev rest : List Part
-        rest = drop (place + 1) (parts_of line)
+        rest = drop (index + 1) (parts_of line)
 
         left_is : run_parts mid.given mid.machine carried' rest ≡ run_parts now.given (step now.given now.machine event).1 (carried_after carried event (step now.given now.machine event)) rest
         left_is = rw (same, s.machine, carried_is) refl
@@ -267,9 +267,9 @@ module _ (first now : Seen) (actor : ℕ) (line : ScriptLine) (all : Ran) (start
         pub leads : LeadsOn first mid actor all (run_parts mid.given mid.machine carried' rest) start between before later
         leads = record {
           makes = λ new after h.
-              on.makes new after (made_more now carried (drop place (parts_of line)) part rest event here is mid new actor made between after same accepted s (rw left_is at h));
+              on.makes new after (made_more now carried (drop index (parts_of line)) part rest event here is mid new actor made between after same accepted s (rw left_is at h));
           stops = λ m h.
-              on.stops m (stops_later now carried (drop place (parts_of line)) part rest event here is m accepted (rw (left_is, same, s.machine) at h));
+              on.stops m (stops_later now carried (drop index (parts_of line)) part rest event here is m accepted (rw (left_is, same, s.machine) at h));
           pays = λ after h.
-              on.pays after (rose_more now carried (drop place (parts_of line)) part rest event here is paid later after accepted rose (rw (left_is, same, s.machine) at h));
+              on.pays after (rose_more now carried (drop index (parts_of line)) part rest event here is paid later after accepted rose (rw (left_is, same, s.machine) at h));
         }

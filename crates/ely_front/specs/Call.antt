@@ -3,7 +3,7 @@ use Rattle.std.specs.Prelude.{ℕ, ◌≡◌, ◌⊎◌, ◌<◌, ◌==◌, ◌&
 use Rattle.std.specs.Str.{bytes_eq}
 use Rattle.std.specs.Io.KnownBytes.{Appends}
 use Rattle.ely_io.specs.Streams.{Input}
-use Rattle.ely_io.specs.Causes.{Rose, AppendsFront}
+use Rattle.ely_io.specs.Causes.{Rose, AppendsPrefix}
 use Rattle.ely_io.specs.Lines.{lines_of}
 use Rattle.ely_io.specs.Reading.{most}
 use Rattle.ely_domain.specs.Given.{Given}
@@ -51,4 +51,4 @@ IsComplete before after status = (bytes : List ℕ) → IsWithinLimits before.in
 pub record RefusesWords (before after : Moment) (status : ℕ) : Type 0 where
   pub uncounted : after.steps ≡ before.steps
   pub written : ((status ≡ 2) × Appends before.output.held after.output.held words_text)
-      ⊎ ((status ≡ 5) × AppendsFront before.output.held after.output.held words_text)
+      ⊎ ((status ≡ 5) × AppendsPrefix before.output.held after.output.held words_text)

@@ -6,7 +6,7 @@ use Rattle.ely_base.specs.declared.refused.Refused.TheVariants.{Fault, NoMemory 
 use Rattle.ely_io.specs.declared.line.LineFault.{LineFault}
 use Rattle.ely_io.specs.declared.line.LineFault.TheVariants.{Read as ReadFault, Spent as SpentFault}
 use Rattle.ely_io.specs.Streams.{Input, Output}
-use Rattle.ely_io.specs.Causes.{AppendsFront}
+use Rattle.ely_io.specs.Causes.{AppendsPrefix}
 use Rattle.ely_io.specs.Lines.{lines_of, whole_lines}
 use Rattle.ely_io.specs.Reading.{most}
 use Rattle.ely_domain.specs.Given.{Given}
@@ -66,11 +66,11 @@ Says gave input ConfigLimit said = (first : List ℕ) × IsFirstLine gave input 
     × (config_most < length first) × (said ≡ config_limit_text)
 Says gave input _ said = ⊥
 
--- nothing was written, or a front of a text that belongs to an ending
+-- nothing was written, or a prefix of a text that belongs to an ending
 abbrev pub IsCutShort : List ℕ → Moment → Moment → Type 0
 IsCutShort gave before after = Appends before.output.held after.output.held []
     ⊎ ((ending : Ending) × (said : List ℕ) × Says gave after.input ending said
-    × AppendsFront before.output.held after.output.held said)
+    × AppendsPrefix before.output.held after.output.held said)
 
 -- a text that belongs to the ending was written whole
 abbrev pub IsSaid : List ℕ → Moment → Moment → Ending → Type 0
@@ -93,7 +93,7 @@ EndsAs before after ending = (gave : List ℕ) × Consumes before.input.left aft
 -- the text was written and that is the ending, or the sink failed
 abbrev pub Closes : Output → Output → List ℕ → Ending → Ending → Type 0
 Closes before after said ending result = ((result ≡ ending) × Appends before.held after.held said)
-    ⊎ ((result ≡ Write) × AppendsFront before.held after.held said)
+    ⊎ ((result ≡ Write) × AppendsPrefix before.held after.held said)
 
 -- how a mode ends where the reader of lines refused
 abbrev pub stop_ending : Refused LineFault → Ending

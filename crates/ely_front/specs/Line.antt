@@ -29,10 +29,10 @@ pub record Makes (old new : Seen) (actor : ℕ) (ran : Ran) (before after : List
 
 -- some first steps of these were made
 pub record StopsIn (given : Given) (old new : Machine) (ran : Ran) : Type 0 where
-  pub front : List Taken
+  pub prefix : List Taken
   pub back : List Taken
-  pub are : ran.0 ≡ front ++ back
-  pub machine : new ≡ machine_after given old front
+  pub are : ran.0 ≡ prefix ++ back
+  pub machine : new ≡ machine_after given old prefix
 
 -- where a step is left to make, one more login may be opened
 abbrev pub HasRoomFor : Machine → List Part → Type 0

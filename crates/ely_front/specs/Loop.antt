@@ -35,7 +35,7 @@ pub record IsUnderWay (start now : Moment) (reader : Reader) (replay : Replay) (
   pub mark : reader.mark ≡ None
   pub counts : Counts reader
 
--- a front of what was collected was written, and the rest is kept: nothing where no whole line is held
+-- a prefix of what was collected was written, and the rest is kept: nothing where no whole line is held
 pub record WritesOn (before after : Output) (old new : List ℕ) (more : Bool) : Type 0 where
   pub written : List ℕ
   pub appended : Appends before.held after.held written

@@ -2,7 +2,7 @@
 
 ghost use Rattle.std.specs.Prelude.{◌≡◌, ◌≤◌, List, [], IfOk, OnOk, OnErr, MatchResult};
 ghost use Rattle.ely_script.specs.Lines.{ScriptLine, read_of};
-ghost use Rattle.ely_io.specs.Causes.{Rose, HasCause, AppendsFront};
+ghost use Rattle.ely_io.specs.Causes.{Rose, HasCause, AppendsPrefix};
 ghost use Rattle.ely_domain.specs.Given.{Given};
 ghost use Rattle.ely_domain.specs.Replays.{Told};
 ghost use Rattle.ely_front.specs.Moments.{Moment, at};
@@ -72,7 +72,7 @@ fn hand_back(reader: &mut LineReader, line: Line)
 fn write_on<K: Sink>(sink: &mut K, out: &mut Vec<u8>, more: bool) -> Result<(), WriteFault>
     ensures bytes { MatchResult result
         (λ _. WritesOn (K.seen sink.old) (K.seen sink.new) out.old.items out.new.items more)
-        (λ _. AppendsFront (K.seen sink.old).held (K.seen sink.new).held out.old.items) }
+        (λ _. AppendsPrefix (K.seen sink.old).held (K.seen sink.new).held out.old.items) }
     ensures cause { HasCause (K.seen sink.old).faults (K.seen sink.new).faults result }
 {
     if more && out.len() < MUCH {

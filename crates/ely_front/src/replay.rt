@@ -43,7 +43,7 @@ fn next_line(counts: &mut BTreeMap<u32, u64>, actor: u32) -> Result<u64, NoMemor
 }
 
 /// Puts the printed lines of these steps, the first of which has this number, behind what is collected, and gives the
-/// number after them. After want of memory a front of them may be there.
+/// number after them. After want of memory a prefix of them may be there.
 fn push_entries(
     out: &mut Vec<u8>,
     number: u64,

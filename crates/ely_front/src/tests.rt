@@ -72,12 +72,12 @@ const REPLAY: [&str; 2] = ["elydom", "replay"];
 /// An input, and the status and the text of its replay.
 type Row<'a> = (&'a [u8], u8, &'a [u8]);
 
-/// The place of the first input whose replay has another status or another text.
+/// The index of the first input whose replay has another status or another text.
 fn first_wrong(rt: &HostRuntime, rows: &[Row]) -> Result<Option<usize>, Fail> {
-    for (place, (input, status, text)) in rows.iter().enumerate() {
+    for (index, (input, status, text)) in rows.iter().enumerate() {
         let (ended, said, _) = ran(rt, &REPLAY, input, &WHOLE)?;
         if ended != *status || said.as_slice() != *text {
-            return Ok(Some(place));
+            return Ok(Some(index));
         }
     }
     Ok(None)

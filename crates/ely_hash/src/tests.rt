@@ -47,9 +47,9 @@ fn keys_alone<H: HashAlg>(salted: &Tag) -> ScramKeys {
     counted_keys::<H, Brand>(Blank::new(1), salted)
 }
 
-fn in_pieces<H: HashAlg>(key: &[u8], front: &[u8], rest: &[u8]) -> Tag {
+fn in_pieces<H: HashAlg>(key: &[u8], prefix: &[u8], rest: &[u8]) -> Tag {
     let mut mac = Hmac::<H>::start(key);
-    mac.add(front);
+    mac.add(prefix);
     mac.add(rest);
     mac.end()
 }

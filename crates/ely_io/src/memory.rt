@@ -143,7 +143,7 @@ impl MemSource {
     }
 }
 
-/// Copies bytes from a place to the front.
+/// Copies bytes from an offset to the front.
 pub(crate) fn copy_at(buf: &mut [u8], text: &[u8], at: usize, count: usize)
     requires room { count ≤ length buf.old }
     requires there { at + count ≤ length text.now }

@@ -22,7 +22,7 @@ pub struct LineReader {
     /// What of the buffer is taken and not given.
     start: usize,
     end: usize,
-    /// What stands before it: a front of a line.
+    /// What stands before it: a prefix of a line.
     kept: Vec<u8>,
     taken: u64,
     given: u64,
@@ -115,9 +115,9 @@ impl LineReader {
         loop {
             let window = &self.buffer[self.start..self.end];
             match first_lf(window) {
-                Some(place) => {
-                    let line = end_line(alloc, &mut self.kept, &window[..place], long, limit)?;
-                    self.start += place + 1;
+                Some(offset) => {
+                    let line = end_line(alloc, &mut self.kept, &window[..offset], long, limit)?;
+                    self.start += offset + 1;
                     self.given = self.taken - (self.end - self.start) as u64;
                     return Ok(line);
                 }

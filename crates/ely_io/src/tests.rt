@@ -71,7 +71,7 @@ fn a_failed_read_is_answered_again(rt: HostRuntime) -> Result<(), Fail> {
 }
 
 #[test]
-fn a_piece_is_written_whole_or_its_front(rt: HostRuntime) -> Result<(), Fail> {
+fn a_piece_is_written_whole_or_its_prefix(rt: HostRuntime) -> Result<(), Fail> {
     let mut sink = MemSink::new(rt.alloc(), vec![in rt.alloc(); 1, 2]?, Vec::new(rt.alloc()));
     assert!(rt; write_all(&mut sink, b"abcdef").is_ok());
     assert_eq!(rt; sink.bytes(), b"abcdef".as_slice());

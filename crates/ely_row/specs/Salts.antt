@@ -2,7 +2,7 @@
 use Rattle.std.specs.Prelude.{ℕ, ◌==◌, ◌||◌, ◌&&◌, Bool, true, nat_le, not, List, [], length, Option, Some, None}
 use Rattle.std.specs.List.{list_all}
 
--- a Salted, with the turns and the salt that made it (RFC 5802 section 3)
+-- a salted password (SaltedPassword), with the turns and the salt that made it (RFC 5802 section 3)
 pub record Salted : Type 0 where
   pub turns : ℕ
   pub salt : List ℕ

@@ -52,7 +52,7 @@ record Code (d e : ℕ) : Type 0 where
 code : (d e : ℕ) (after : List ℕ) → is_escape (d ∷ e ∷ after) ≡ true → Code d e
 code d e after h = record { first = grind (arith, nat_tests); second = grind (arith, nat_tests) }
 
--- where no bad escape stands at a offset, the first one is searched from the next offset on
+-- where no bad escape stands at an offset, the first one is searched from the next offset on
 pub bad_more : (xs : List ℕ) (i : ℕ) → i < length xs → (eqb (get_or xs i 0) 61 && not (is_escape (drop (i + 1) xs))) ≡ false → option_map (λ k. i + k) (bad_escape (drop i xs)) ≡ option_map (λ k. i + 1 + k) (bad_escape (drop (i + 1) xs))
 bad_more xs i within h =
     let e : suc i ≡ i + 1 = omega arith in
@@ -108,51 +108,51 @@ any_unescaped (c ∷ d ∷ e ∷ after) h = ⊎_elim
     ∙ ap (λ t. is_barred c || t) (any_unescaped (d ∷ e ∷ after) (none_behind c (d ∷ e ∷ after) h).1))
     (cases_Bool (eqb c 61))
 
-at_middle : (front : List ℕ) (c : ℕ) (after : List ℕ) → get_or (front ++ c ∷ after) (length front) 0 ≡ c
-at_middle front c after = get_or_at front c after 0 (length front) refl
+at_middle : (prefix : List ℕ) (c : ℕ) (after : List ℕ) → get_or (prefix ++ c ∷ after) (length prefix) 0 ≡ c
+at_middle prefix c after = get_or_at prefix c after 0 (length prefix) refl
 
 -- what stands before and behind a byte below 128 is a text
-front_text : (front : List ℕ) (c : ℕ) (after : List ℕ) → c < 128 → IsUtf8 (front ++ c ∷ after) → IsUtf8 front
-front_text front c after low u =
-    let whole = front ++ c ∷ after in
-    let within : length front < length whole = omega (arith, length-append front (c ∷ after)) in
-    subst IsUtf8 (take_at front (c ∷ after) (length front) refl)
-    (IsUtf8-take whole (length front) u (IsCharBoundary-before_ascii whole (length front) within (omega (arith, at_middle front c after))))
+prefix_text : (prefix : List ℕ) (c : ℕ) (after : List ℕ) → c < 128 → IsUtf8 (prefix ++ c ∷ after) → IsUtf8 prefix
+prefix_text prefix c after low u =
+    let whole = prefix ++ c ∷ after in
+    let within : length prefix < length whole = omega (arith, length-append prefix (c ∷ after)) in
+    subst IsUtf8 (take_at prefix (c ∷ after) (length prefix) refl)
+    (IsUtf8-take whole (length prefix) u (IsCharBoundary-before_ascii whole (length prefix) within (omega (arith, at_middle prefix c after))))
 
-behind_text : (front : List ℕ) (c : ℕ) (after : List ℕ) → c < 128 → IsUtf8 (front ++ c ∷ after) → IsUtf8 after
-behind_text front c after low u =
-    let whole = front ++ c ∷ after in
-    let within : length front < length whole = omega (arith, length-append front (c ∷ after)) in
-    let moved : drop (length front + 1) whole ≡ after = ap (drop (length front + 1)) (sym (append_assoc front (c ∷ []) after)) ∙ drop_at (front ++ c ∷ []) after (length front + 1) (length_push front c) in
+behind_text : (prefix : List ℕ) (c : ℕ) (after : List ℕ) → c < 128 → IsUtf8 (prefix ++ c ∷ after) → IsUtf8 after
+behind_text prefix c after low u =
+    let whole = prefix ++ c ∷ after in
+    let within : length prefix < length whole = omega (arith, length-append prefix (c ∷ after)) in
+    let moved : drop (length prefix + 1) whole ≡ after = ap (drop (length prefix + 1)) (sym (append_assoc prefix (c ∷ []) after)) ∙ drop_at (prefix ++ c ∷ []) after (length prefix + 1) (length_push prefix c) in
     subst IsUtf8 moved
-    (IsUtf8-drop whole (length front + 1) u (IsCharBoundary-after_ascii whole (length front) u within (omega (arith, at_middle front c after))))
+    (IsUtf8-drop whole (length prefix + 1) u (IsCharBoundary-after_ascii whole (length prefix) u within (omega (arith, at_middle prefix c after))))
 
 low_text : (b : Bool) (xs : List ℕ) → IsUtf8 xs → IsUtf8 (cond b 44 61 ∷ xs)
 unfolding lib.Utf8.encode
 low_text true xs u = IsUtf8-append (44 ∷ []) xs (44 ∷ [], (refl, refl)) u
 low_text false xs u = IsUtf8-append (61 ∷ []) xs (61 ∷ [], (refl, refl)) u
 
--- a text whose codes are replaced behind some front is still a text
-text_behind : (front xs : List ℕ) → bad_escape xs ≡ None → IsUtf8 (front ++ xs) → IsUtf8 (front ++ unescaped xs)
-text_behind front [] h u = u
-text_behind front (c ∷ []) h u = u
-text_behind front (c ∷ d ∷ []) h u = u
-text_behind front (c ∷ d ∷ e ∷ after) h u = ⊎_elim
+-- a text whose codes are replaced behind some prefix is still a text
+text_behind : (prefix xs : List ℕ) → bad_escape xs ≡ None → IsUtf8 (prefix ++ xs) → IsUtf8 (prefix ++ unescaped xs)
+text_behind prefix [] h u = u
+text_behind prefix (c ∷ []) h u = u
+text_behind prefix (c ∷ d ∷ []) h u = u
+text_behind prefix (c ∷ d ∷ e ∷ after) h u = ⊎_elim
     (λ (yes : eqb c 61 ≡ true).
     let is : c ≡ 61 = grind (arith, nat_tests) in
     let x = code_behind c d e after is h in
     let low : d < 128 = digit_low d x.0.first in
     let low_e : e < 128 = letter_low e x.0.second in
-    let one = behind_text front c (d ∷ e ∷ after) (omega arith) u in
+    let one = behind_text prefix c (d ∷ e ∷ after) (omega arith) u in
     let two = behind_text [] d (e ∷ after) low one in
     let three = behind_text [] e after low_e two in
-    subst (λ (ys : List ℕ). IsUtf8 (front ++ ys)) (sym (coded c d e after is))
-    (IsUtf8-append front _ (front_text front c (d ∷ e ∷ after) (omega arith) u) (low_text (eqb d 50) _ (text_behind [] after x.1 three))))
+    subst (λ (ys : List ℕ). IsUtf8 (prefix ++ ys)) (sym (coded c d e after is))
+    (IsUtf8-append prefix _ (prefix_text prefix c (d ∷ e ∷ after) (omega arith) u) (low_text (eqb d 50) _ (text_behind [] after x.1 three))))
     (λ (no : eqb c 61 ≡ false).
     let ne : c ≢ 61 = grind (arith, nat_tests) in
-    let rest = text_behind (front ++ c ∷ []) (d ∷ e ∷ after) (none_behind c (d ∷ e ∷ after) h).1 (subst IsUtf8 (sym (append_assoc front (c ∷ []) (d ∷ e ∷ after))) u) in
-    subst (λ (ys : List ℕ). IsUtf8 (front ++ ys)) (sym (plain c (d ∷ e ∷ after) ne))
-    (subst IsUtf8 (append_assoc front (c ∷ []) (unescaped (d ∷ e ∷ after))) rest))
+    let rest = text_behind (prefix ++ c ∷ []) (d ∷ e ∷ after) (none_behind c (d ∷ e ∷ after) h).1 (subst IsUtf8 (sym (append_assoc prefix (c ∷ []) (d ∷ e ∷ after))) u) in
+    subst (λ (ys : List ℕ). IsUtf8 (prefix ++ ys)) (sym (plain c (d ∷ e ∷ after) ne))
+    (subst IsUtf8 (append_assoc prefix (c ∷ []) (unescaped (d ∷ e ∷ after))) rest))
     (cases_Bool (eqb c 61))
   where
     digit_low : (d : ℕ) → (d ≡ 50) ⊎ (d ≡ 51) → d < 128

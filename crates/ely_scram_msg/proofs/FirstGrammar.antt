@@ -111,7 +111,7 @@ spelled bytes rest flag (t1 ∷ t2 ∷ t3 ∷ ts) m text lack is cut h =
     let head = flag_byte flag ∷ 44 ∷ t1 ++ 44 ∷ [] in
     let whole : bytes ≡ head ++ tail = is ∙ ap (λ (xs : List ℕ). flag_byte flag ∷ 44 ∷ xs) (cut ∙ sym (append_assoc t1 (44 ∷ []) tail)) in
     let len : length head ≡ p = omega (arith, length-append t1 (44 ∷ [])) in
-    let front : take p bytes ≡ head = ap (take p) whole ∙ take_at head tail p len in
+    let prefix : take p bytes ≡ head = ap (take p) whole ∙ take_at head tail p len in
     let back : drop p bytes ≡ tail = ap (drop p) whole ∙ drop_at head tail p len in
     let end : tail ≡ (110 ∷ 61 ∷ u.value ++ 44 ∷ 114 ∷ 61 ∷ c.0) ++ extensions_text ts =
     ap (λ (xs : List ℕ). t2 ++ 44 ∷ xs) (joined t3 ts)
@@ -124,7 +124,7 @@ spelled bytes rest flag (t1 ∷ t2 ∷ t3 ∷ ts) m text lack is cut h =
       name = u.value;
       extensions = ts;
       whole = sym (take-append-drop p bytes);
-      gs2 = front;
+      gs2 = prefix;
       bare = back ∙ end;
       is_authzid = authzid_read (record { offset = 2; text = t1 }) a.0 l1.0 a.1;
       is_name = u.name_is;
@@ -185,7 +185,7 @@ grammar_accepted bytes m g =
     let whole : bytes ≡ head ++ tail = g.whole ∙ (ap (λ (xs : List ℕ). xs ++ m.bare) g.gs2 ∙ ap (λ (xs : List ℕ). head ++ xs) bare) in
     let is : bytes ≡ flag_byte m.flag ∷ 44 ∷ rest = whole ∙ ap (λ (xs : List ℕ). flag_byte m.flag ∷ 44 ∷ xs) (append_assoc t1 (44 ∷ []) tail) in
     let len : length head ≡ p = omega (arith, length-append t1 (44 ∷ [])) in
-    let front : take p bytes ≡ m.gs2 = ap (take p) whole ∙ (take_at head tail p len ∙ sym g.gs2) in
+    let prefix : take p bytes ≡ m.gs2 = ap (take p) whole ∙ (take_at head tail p len ∙ sym g.gs2) in
     let back : drop p bytes ≡ m.bare = ap (drop p) whole ∙ (drop_at head tail p len ∙ sym bare) in
     let lacks : no_commas (t2 ∷ t3 ∷ ts) ≡ true =
     ap (λ b. not b && (not (list_any is_comma m.nonce) && no_commas ts)) g.is_name.no_comma
@@ -201,7 +201,7 @@ grammar_accepted bytes m g =
     (bind_is (username_of (record { offset = p; text = t2 })) _ m.name (Ok m) (username_is p g.name m.name g.is_name)
     (bind_is (nonce_of (record { offset = q; text = t3 })) _ m.nonce (Ok m) (nonce_is q m.nonce g.is_nonce)
     (bind_is (extensions_of (located_from (q + length t3 + 1) ts)) _ tt (Ok m) (extensions_are (q + length t3 + 1) ts g.are_extensions)
-    (same (take p bytes) m.gs2 (drop p bytes) m.bare front back)))))
+    (same (take p bytes) m.gs2 (drop p bytes) m.bare prefix back)))))
   where
     same : (a b c d : List ℕ) → a ≡ b → c ≡ d → ok_of (record { flag = m.flag; authzid = m.authzid; name = m.name; nonce = m.nonce; gs2 = a; bare = c }) ≡ ok_of (record { flag = m.flag; authzid = m.authzid; name = m.name; nonce = m.nonce; gs2 = b; bare = d })
     same a b c d h k = cc

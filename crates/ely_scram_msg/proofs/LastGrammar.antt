@@ -177,7 +177,7 @@ spelled bytes (t1 ∷ t2 ∷ ts) m text lack cut h =
     ∙ (sym (append_assoc t1 (44 ∷ t2) (x ++ y)) ∙ sym (append_assoc (t1 ++ 44 ∷ t2) x y)))) in
     let at = e.at in
     let len : length head ≡ c.0.1 = omega (arith, at, length-append (t1 ++ 44 ∷ t2) x, length-append t1 (44 ∷ t2)) in
-    let front : take c.0.1 bytes ≡ head = ap (take c.0.1) whole ∙ take_at head y c.0.1 len in
+    let prefix : take c.0.1 bytes ≡ head = ap (take c.0.1) whole ∙ take_at head y c.0.1 len in
     let made : ClientLast = record { binding = a.0; nonce = b.0; proof = c.0.0; without_proof = take c.0.1 bytes } in
     let same : made ≡ m = cc (c.2) in
     let given : IsClientLast bytes made = record {
@@ -185,8 +185,8 @@ spelled bytes (t1 ∷ t2 ∷ ts) m text lack cut h =
       extensions = e.extensions;
       proof = e.proof;
       is_text = text;
-      whole = whole ∙ ap (λ (xs : List ℕ). xs ++ y) (sym front);
-      without_proof = front ∙ (ap (λ (xs : List ℕ). (xs ++ 44 ∷ t2) ++ x) v.is ∙ ap (λ (xs : List ℕ). (99 ∷ 61 ∷ v.value ++ 44 ∷ xs) ++ x) n.0);
+      whole = whole ∙ ap (λ (xs : List ℕ). xs ++ y) (sym prefix);
+      without_proof = prefix ∙ (ap (λ (xs : List ℕ). (xs ++ 44 ∷ t2) ++ x) v.is ∙ ap (λ (xs : List ℕ). (99 ∷ 61 ∷ v.value ++ 44 ∷ xs) ++ x) n.0);
       is_binding = v.stands_for;
       is_nonce = n.1;
       are_extensions = e.are_extensions;
@@ -224,7 +224,7 @@ grammar_accepted bytes m g =
     ∙ (append_assoc t1 (44 ∷ t2) (x ++ y)
     ∙ (ap (λ (xs : List ℕ). t1 ++ ((44 ∷ t2) ++ xs)) (sym (with_proof g.extensions p)) ∙ sym (joined t1 (t2 ∷ ts))))) in
     let len : length head ≡ n = omega (arith, length-append (t1 ++ 44 ∷ t2) x, length-append t1 (44 ∷ t2)) in
-    let front : take n bytes ≡ m.without_proof = ap (take n) whole ∙ (take_at head y n len ∙ sym g.without_proof) in
+    let prefix : take n bytes ≡ m.without_proof = ap (take n) whole ∙ (take_at head y n len ∙ sym g.without_proof) in
     let ends : no_commas ts ≡ true = list_all-append (λ text. not (list_any is_comma text)) g.extensions (p ∷ [])
     ∙ (ap (λ b. b && no_commas (p ∷ [])) g.are_extensions.no_comma ∙ ap (λ b. not b && true) g.is_proof.no_comma) in
     let lacks : no_commas (t2 ∷ ts) ≡ true = ap (λ b. not b && no_commas ts) (nonce_lacks m.nonce g.is_nonce) ∙ ends in
@@ -235,7 +235,7 @@ grammar_accepted bytes m g =
     ∙ bind_is (binding_of (record { offset = 0; text = t1 })) _ m.binding (Ok m) (binding_is 0 g.binding m.binding g.is_binding)
     (bind_is (nonce_of (record { offset = q; text = t2 })) _ m.nonce (Ok m) (nonce_is q m.nonce g.is_nonce)
     (bind_is (ending_of (length bytes) (located_from (k + 1) ts)) _ (m.proof, n) (Ok m) (ending_is (length bytes) k g.extensions g.proof m.proof g.are_extensions g.none_proof g.is_proof)
-    (same (take n bytes) m.without_proof front))))
+    (same (take n bytes) m.without_proof prefix))))
   where
     same : (a b : List ℕ) → a ≡ b → ok_of (record { binding = m.binding; nonce = m.nonce; proof = m.proof; without_proof = a }) ≡ ok_of (record { binding = m.binding; nonce = m.nonce; proof = m.proof; without_proof = b })
     same a b h = cc

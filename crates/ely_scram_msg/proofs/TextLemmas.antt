@@ -1,4 +1,4 @@
--- Bytes are a text where their longest front that is UTF-8 is the whole of them, and then no fault of a text is found.
+-- Bytes are a text where their longest prefix that is UTF-8 is the whole of them, and then no fault of a text is found.
 use Rattle.std.proofs.Common.{◌≡◌, ℕ, false, List, length, IsUtf8, arith, ltb}
 use Rattle.std.proofs.lemmas.Bool.{cond-false}
 use Rattle.std.proofs.lemmas.Bool.Decides.{nat_tests}

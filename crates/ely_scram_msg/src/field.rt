@@ -53,7 +53,7 @@ impl<'a> Field<'a> {
     /// The field at the front, and what stands behind its comma.
     pub fn cut(self) -> (Field<'a>, Option<Field<'a>>)
         ensures fields { fields_of self.entry ≡ result.0 ∷ fields_left result.1 }
-        ensures front { result.0.offset ≡ self.entry.offset }
+        ensures prefix { result.0.offset ≡ self.entry.offset }
         ensures behind { IfSome result.1 (λ rest. 0 < rest.offset) }
         ensures within { IfSome result.1 (λ rest.
             rest.offset + length rest.text ≤ self.entry.offset + length self.entry.text) }
@@ -116,7 +116,7 @@ pub fn due<'a>(
     requires { IfSome rest (λ part. part.offset + length part.text ≤ end) }
     ensures read { Reads (λ x. (x.0, fields_left x.1)) result (due end (fields_left rest.entry)) }
     ensures behind { IfOk result (λ x. IfSome x.1 (λ part. 0 < part.offset)) }
-    ensures front { IfOk result (λ x. x.0.offset ≤ end) }
+    ensures prefix { IfOk result (λ x. x.0.offset ≤ end) }
     ensures within { IfOk result (λ x. IfSome x.1 (λ part. part.offset + length part.text ≤ end)) }
 {
     match rest {

@@ -56,30 +56,30 @@ kept_same texts old new edits kept same = record {
 }
 
 -- two ways to cut a list that has one more at its end
-cut_last : (xs front back : List Edit) (x edit : Edit) → xs ++ x ∷ [] ≡ front ++ edit ∷ back → ((rest : List Edit) × (xs ≡ front ++ edit ∷ rest)) ⊎ ((front ≡ xs) × (edit ≡ x))
+cut_last : (xs prefix back : List Edit) (x edit : Edit) → xs ++ x ∷ [] ≡ prefix ++ edit ∷ back → ((rest : List Edit) × (xs ≡ prefix ++ edit ∷ rest)) ⊎ ((prefix ≡ xs) × (edit ≡ x))
 cut_last [] [] back x edit is = inr (refl, cc)
 cut_last [] (y ∷ []) back x edit is = absurd cc
-cut_last [] (y ∷ z ∷ front) back x edit is = absurd cc
+cut_last [] (y ∷ z ∷ prefix) back x edit is = absurd cc
 cut_last (x' ∷ xs) [] back x edit is = inl (xs, cc)
-cut_last (x' ∷ xs) (y ∷ front) back x edit is =
+cut_last (x' ∷ xs) (y ∷ prefix) back x edit is =
     let same : x' ≡ y = cc in
-    let rest : xs ++ x ∷ [] ≡ front ++ edit ∷ back = cc in
+    let rest : xs ++ x ∷ [] ≡ prefix ++ edit ∷ back = cc in
     ⊎_elim
-    (λ (h : (rest : List Edit) × (xs ≡ front ++ edit ∷ rest)). inl (h.0, rw (same, h.1) refl))
-    (λ (h : (front ≡ xs) × (edit ≡ x)). inr (rw (same, h.0) refl, h.1))
-    (cut_last xs front back x edit rest)
+    (λ (h : (rest : List Edit) × (xs ≡ prefix ++ edit ∷ rest)). inl (h.0, rw (same, h.1) refl))
+    (λ (h : (prefix ≡ xs) × (edit ≡ x)). inr (rw (same, h.0) refl, h.1))
+    (cut_last xs prefix back x edit rest)
 
 -- an edit without a fault makes a journal longer
 accepted_push : (realms : List (List ℕ × RealmClass)) (limit : ℕ) (edits : List Edit) (edit : Edit) → IsAccepted realms limit edits → fault realms limit edits edit ≡ None → IsAccepted realms limit (edits ++ edit ∷ [])
-accepted_push realms limit edits edit accepted none front e back is = ⊎_elim
-    (λ (h : (rest : List Edit) × (edits ≡ front ++ e ∷ rest)). accepted front e h.0 h.1)
-    (λ (h : (front ≡ edits) × (e ≡ edit)). rw (h.0, h.1) none)
-    (cut_last edits front back edit e is)
+accepted_push realms limit edits edit accepted none prefix e back is = ⊎_elim
+    (λ (h : (rest : List Edit) × (edits ≡ prefix ++ e ∷ rest)). accepted prefix e h.0 h.1)
+    (λ (h : (prefix ≡ edits) × (e ≡ edit)). rw (h.0, h.1) none)
+    (cut_last edits prefix back edit e is)
 
 -- no edits are a journal of accepted edits
 accepted_none : (realms : List (List ℕ × RealmClass)) (limit : ℕ) → IsAccepted realms limit []
 accepted_none realms limit [] edit back is = absurd cc
-accepted_none realms limit (x ∷ front) edit back is = absurd cc
+accepted_none realms limit (x ∷ prefix) edit back is = absurd cc
 
 below_limit : (b : Bool) (f : EditFault) (other : Option EditFault) → cond b (Some f) other ≡ None → b ≡ false
 below_limit true f other h = absurd cc

@@ -51,7 +51,7 @@ fault realms limit edits edit =
 
 -- each edit has no fault after those before it
 abbrev pub IsAccepted : List (List ℕ × RealmClass) → ℕ → List Edit → Type 0
-IsAccepted realms limit edits = (front : List Edit) (edit : Edit) (back : List Edit) → edits ≡ front ++ edit ∷ back → fault realms limit front edit ≡ None
+IsAccepted realms limit edits = (prefix : List Edit) (edit : Edit) (back : List Edit) → edits ≡ prefix ++ edit ∷ back → fault realms limit prefix edit ≡ None
 
 -- the refusal is for that reason, unless memory ran out
 abbrev pub IsRefusal : Refused EditFault → Option EditFault → Type 0

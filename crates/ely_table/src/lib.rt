@@ -1,6 +1,6 @@
-//! The rows that the accepted edits made, kept beside the journal of those edits, so that a look-up and an edit take the
-//! logarithm of the rows. It stands on `ely_row` and `ely_base`; its definitions say which edits a journal takes, and which
-//! of them touch what an answer rests on.
+//! The rows that the accepted edits made, as ordered maps beside the journal of those edits, so that no look-up walks the
+//! journal. It stands on `ely_row` and `ely_base`; its definitions say which edits a journal takes, and which of them touch
+//! what an answer rests on.
 #![tactic(auto)]
 
 mod class;

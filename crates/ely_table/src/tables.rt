@@ -16,9 +16,8 @@ use std::alloc::Global;
 use std::collections::BTreeMap;
 use std::marker::Model;
 
-/// Realms with the rows that the accepted edits made of their names, and the journal of those edits. They are seen as the
-/// realms with their classes, the most edits that the journal takes, and the edits. A look-up and an edit take the
-/// logarithm of the rows.
+/// Realms with the rows that the accepted edits made of their names, as ordered maps, and the journal of those edits. They
+/// are seen as the realms with their classes, the most edits that the journal takes, and the edits.
 #[derive(Drop)]
 pub struct Tables {
     tables: Vec<Table>,

@@ -7,5 +7,5 @@ pub returns-in_err-push_step-clause-err : goal.returns-in_err-push_step-clause-e
 returns-in_err-push_step-clause-err c =
     at_any_rate c.from_residual.result (Extends c.args.out.now.items c.push_step.new.out.items) (record {
       more = _;
-      is = c.in_err-push_step.ensures.err.is ∙ (ap (λ xs. xs ++ c.in_err-push_step.ensures.err.more) c.loop-entry.invariant.front.is ∙ append_assoc c.args.out.now.items _ _);
+      is = c.in_err-push_step.ensures.err.is ∙ (ap (λ xs. xs ++ c.in_err-push_step.ensures.err.more) c.loop-entry.invariant.prefix.is ∙ append_assoc c.args.out.now.items _ _);
     })
