@@ -18,7 +18,7 @@ use Rattle.ely_domain.specs.Machine.{Machine, Stepped, first_machine, step}
 use Rattle.ely_domain.specs.Parts.{Part, actor_of, parts_of, event_of}
 use Rattle.ely_domain.specs.Replays.{Made, Told, made_by, told_by, made_of, steps_of, steps_told, kept_told, own_count, replayed_after, replayed}
 use Rattle.ely_domain.proofs.FileOrder.{ordered_from}
-use Rattle.ely_domain.proofs.GetsIn.{proved_in_runs, authorized_in_runs, established_in_runs, by_right_in_runs}
+use Rattle.ely_domain.proofs.GetsIn.{pinned_in_runs, proved_in_runs, authorized_in_runs, established_in_runs, by_right_in_runs, allowed_in_runs}
 use Rattle.ely_domain.proofs.Whole.{whole_next, whole_none}
 
 -- ---- what a line makes is a run
@@ -84,9 +84,11 @@ history_of given lines h whole fixed =
       whole = whole;
       in_file_order = rw fixed (ordered_from given lines lines [] (first_machine given) refl).0;
       established = established_in_runs given (steps_told h) run;
+      pinned = pinned_in_runs given (steps_told h) run;
       proved = proved_in_runs given (steps_told h) run;
       authorized = authorized_in_runs given (steps_told h) run;
       by_right = by_right_in_runs given (steps_told h) run;
+      allowed = allowed_in_runs given (steps_told h) run;
       fixed = fixed;
     }
 

@@ -1,9 +1,10 @@
 -- Who gets in, over every run of the machine.
-use Rattle.std.proofs.Common.{◌≡◌, ℕ, Bool, true, false, cond, eqb, List, [], ◌∷◌, ◌++◌, Option, Some, None, refl, sym, ap, subst, ◌∙◌, eqb-true}
+use Rattle.std.proofs.Common.{◌≡◌, ℕ, Bool, true, false, cond, eqb, List, [], ◌∷◌, ◌++◌, Option, Some, None, Result, Ok, Err, refl, sym, ap, subst, ◌∙◌, eqb-true}
 use Rattle.std.specs.Prelude.{is_some}
 use Rattle.std.specs.List.{list_any}
 use Rattle.ely_row.specs.declared.edit.Edit.{Edit}
 use Rattle.ely_row.specs.declared.edit.Edit.TheVariants as edits
+use Rattle.ely_script.specs.declared.claim.Claim.{Claim}
 use Rattle.ely_script.specs.declared.claim.Evidence.{Evidence}
 use Rattle.ely_script.specs.declared.claim.Evidence.TheVariants as evidences
 use Rattle.ely_script.specs.declared.outcome.Outcome.{Outcome}
@@ -24,11 +25,10 @@ use Rattle.ely_domain.specs.Identities.{Known, key_at, grants, roles, to_log_in}
 use Rattle.ely_domain.specs.Lines.{Taken}
 use Rattle.ely_domain.specs.Logins.{Pinned, KnownStage, KnownLogin, Live}
 use Rattle.ely_domain.specs.Machine.{Machine, Answered, known, answered, answered_for, carried_out, first_machine, step}
-use Rattle.ely_domain.specs.Steps.{Reply, NotDue, Stays, Moves, reply, carried, is_carried, not_due, not_there, check2, authorize, succeed}
-use Rattle.ely_domain.specs.Verdicts.{is_proof_of}
-use Rattle.ely_domain.specs.WhoGetsIn.{Said, said_of, known_by, has_shown, is_granted, is_gone, is_state, is_pinned, HasRight, IsProvedWhereShown, IsAuthorizedWhereGranted, IsEstablishedByRight}
+use Rattle.ely_domain.specs.Steps.{Reply, NotDue, Stays, Moves, reply, carried, is_carried, not_due, not_there, naming, pinned_or, name1, check2, authorize, yes_or_no, allows, succeed}
+use Rattle.ely_domain.specs.WhoGetsIn.{Said, said_of, known_by, has_shown, is_granted, is_gone, is_state, is_pinned, HasRight, IsNamedNow, IsPinnedAsOfNow, IsProvedWhereShown, IsAuthorizedWhereGranted, IsEstablishedByRight, IsAllowedWhereGranted}
 use Rattle.ely_domain.proofs.Runs.{IsTrackedIn, run_tracked, run_split, known_is}
-use Rattle.ely_domain.proofs.Tracking.{Fits, FitsStage, HoldsSaid, IsTracked, shown_is, not_ready}
+use Rattle.ely_domain.proofs.Tracking.{Fits, FitsStage, HoldsSaid, IsTracked, opening_of, naming_pins, naming_finds, naming_refuses, shown_is, not_ready}
 use Rattle.ely_domain.proofs.WordLists.{IsAt}
 
 -- what a step of the login c answers, by what is found and what its reply is
@@ -86,16 +86,11 @@ module _ (k : Known) (live : Live) (c : ℕ) (rest : Option (List StepWord)) (sa
       same : (x y : Outcome) (s t : KnownStage) → Moves x s ≡ Moves y t → x ≡ y
       same x y s t h = cc
 
-      moves : (login : KnownLogin) (outcome : Outcome) (next stage : KnownStage) → (said.mech ≡ Some login.mech) × HoldsSaid k said stage
+      moves : (login : KnownLogin) (outcome : Outcome) (next stage : KnownStage) → (said.opening ≡ Some (opening_of login)) × HoldsSaid k said stage
           → check2 k login stage ≡ Moves outcome next → is_accepted outcome ≡ has_shown k said
-      moves login outcome next (Checking p key (evidences.Plain password)) holds is =
-          by (is_proof_of (key_at k login.mech p.version p.place) (evidences.Plain password)) refl is
-        where
-          by : (b : Bool) → is_proof_of (key_at k login.mech p.version p.place) (evidences.Plain password) ≡ b
-              → (let judged : Outcome = cond b (outcomes.Proved None) outcomes.Password in
-              Moves judged (cond (is_accepted judged) (Proved p) Failed) ≡ Moves outcome next → is_accepted outcome ≡ has_shown k said)
-          by true e h = rw (← same _ outcome _ next h) (sym (shown_is k login.serial login.mech login.nonce [] said holds.0 p (evidences.Plain password) holds.1.0 holds.1.1 ∙ e))
-          by false e h = rw (← same _ outcome _ next h) (sym (shown_is k login.serial login.mech login.nonce [] said holds.0 p (evidences.Plain password) holds.1.0 holds.1.1 ∙ e))
+      moves login outcome next (Checking p key e) holds is =
+          ap is_accepted (sym (same _ outcome _ next is))
+          ∙ sym (shown_is k login.serial login.mech login.nonce [] said holds.0 p e holds.1.0 holds.1.1)
       moves login outcome next Fresh holds is = cc
       moves login outcome next (Loading p) holds is = cc
       moves login outcome next (Named p key) holds is = cc
@@ -105,12 +100,12 @@ module _ (k : Known) (live : Live) (c : ℕ) (rest : Option (List StepWord)) (sa
       moves login outcome next Failed holds is = cc
 
   -- an authorization that isn't refused with a state
-  pub authorized_where_granted : (let o = (answered k live (events.Authorize c) c).outcome in is_state o ≡ false → is_accepted o ≡ is_granted k said.pin)
-  authorized_where_granted = by_answer (λ o. is_state o ≡ false → is_accepted o ≡ is_granted k said.pin) k live (events.Authorize c) c
+  pub authorized_where_granted : (let o = (answered k live (events.Authorize c) c).outcome in is_state o ≡ false → is_accepted o ≡ is_granted k said.pin to_log_in)
+  authorized_where_granted = by_answer (λ o. is_state o ≡ false → is_accepted o ≡ is_granted k said.pin to_log_in) k live (events.Authorize c) c
       (λ login is h. cc) (λ h. cc) (λ n e h. cc) (λ login is outcome e h. stays outcome login.stage e)
       (λ login is outcome stage e h. moves outcome stage login.stage (at_login login is).is_said.1 e)
     where
-      stays : (outcome : Outcome) (stage : KnownStage) → authorize k stage ≡ Stays outcome → is_accepted outcome ≡ is_granted k said.pin
+      stays : (outcome : Outcome) (stage : KnownStage) → authorize k stage ≡ Stays outcome → is_accepted outcome ≡ is_granted k said.pin to_log_in
       stays outcome (Proved p) is = cc
       stays outcome Fresh is = cc
       stays outcome (Loading p) is = cc
@@ -124,12 +119,12 @@ module _ (k : Known) (live : Live) (c : ℕ) (rest : Option (List StepWord)) (sa
       same x y s t h = cc
 
       moves : (outcome : Outcome) (next stage : KnownStage) → HoldsSaid k said stage
-          → authorize k stage ≡ Moves outcome next → is_accepted outcome ≡ is_granted k said.pin
+          → authorize k stage ≡ Moves outcome next → is_accepted outcome ≡ is_granted k said.pin to_log_in
       moves outcome next (Proved p) holds is = by (grants k p.version p.place to_log_in) refl is
         where
           by : (b : Bool) → grants k p.version p.place to_log_in ≡ b
               → Moves (cond b outcomes.Authorized (outcomes.Denied p.version)) (cond b (Authorized p) (Proved p)) ≡ Moves outcome next
-              → is_accepted outcome ≡ is_granted k said.pin
+              → is_accepted outcome ≡ is_granted k said.pin to_log_in
           by true e h = rw (← same _ outcome _ next h, holds.0.pin) (sym e)
           by false e h = rw (← same _ outcome _ next h, holds.0.pin) (sym e)
       moves outcome next Fresh holds is = cc
@@ -201,6 +196,93 @@ module _ (k : Known) (live : Live) (c : ℕ) (rest : Option (List StepWord)) (sa
       moves outcome next (Complete p) holds is = cc
       moves outcome next Failed holds is = cc
 
+  -- an allows that isn't refused with a state
+  pub allowed_where_granted : (wanted : List ℕ)
+      → (let o = (answered k live (events.Allows c wanted) c).outcome in is_state o ≡ false → o ≡ yes_or_no (is_granted k said.pin wanted))
+  allowed_where_granted wanted = by_answer (λ o. is_state o ≡ false → o ≡ yes_or_no (is_granted k said.pin wanted)) k live (events.Allows c wanted) c
+      (λ login is h. cc) (λ h. cc) (λ n e h. cc)
+      (λ login is outcome e h. stays outcome login.stage (at_login login is).is_said.1 e) (λ login is outcome stage e h. moves outcome stage login.stage e)
+    where
+      same : (x y : Outcome) → Stays x ≡ Stays y → x ≡ y
+      same x y h = cc
+
+      stays : (outcome : Outcome) (stage : KnownStage) → HoldsSaid k said stage
+          → allows k wanted stage ≡ Stays outcome → outcome ≡ yes_or_no (is_granted k said.pin wanted)
+      stays outcome (Complete p) holds is = sym (same _ outcome is) ∙ rw holds.0.pin refl
+      stays outcome Fresh holds is = cc
+      stays outcome (Loading p) holds is = cc
+      stays outcome (Named p key) holds is = cc
+      stays outcome (Checking p key e) holds is = cc
+      stays outcome (Proved p) holds is = cc
+      stays outcome (Authorized p) holds is = cc
+      stays outcome Failed holds is = cc
+
+      moves : (outcome : Outcome) (next stage : KnownStage) → allows k wanted stage ≡ Moves outcome next → outcome ≡ yes_or_no (is_granted k said.pin wanted)
+      moves outcome next (Complete p) is = cc
+      moves outcome next Fresh is = cc
+      moves outcome next (Loading p) is = cc
+      moves outcome next (Named p key) is = cc
+      moves outcome next (Checking p key e) is = cc
+      moves outcome next (Proved p) is = cc
+      moves outcome next (Authorized p) is = cc
+      moves outcome next Failed is = cc
+
+-- an accepted naming pins what is named now, whatever was said before
+module _ (k : Known) (live : Live) (c : ℕ) (claim : Claim) where
+  pub named_now : (let o = (answered k live (events.Name1 c claim) c).outcome in is_accepted o ≡ true → IsNamedNow k claim o)
+  named_now = by_answer (λ o. is_accepted o ≡ true → IsNamedNow k claim o) k live (events.Name1 c claim) c
+      (λ login is h. cc) (λ h. cc) (λ n e h. cc)
+      (λ login is outcome e. stays login outcome login.stage e) (λ login is outcome stage e h. moves login outcome stage login.stage e)
+    where
+      none : false ≡ true → ⊥
+      none h = cc
+
+      stays_fresh : (login : KnownLogin) (outcome : Outcome) (r : Result Pinned Outcome) → naming k login.mech claim ≡ r
+          → pinned_or r ≡ Stays outcome → is_accepted outcome ≡ true → IsNamedNow k claim outcome
+      stays_fresh login outcome (Ok pin) e is h = cc
+      stays_fresh login outcome (Err refusal) e is h = absurd (none (sym (naming_refuses k login.mech claim outcome (e ∙ ap Err (same refusal outcome is))) ∙ h))
+        where
+          same : (x y : Outcome) → Stays x ≡ Stays y → x ≡ y
+          same x y h = cc
+
+      stays : (login : KnownLogin) (outcome : Outcome) (stage : KnownStage) → name1 k login claim stage ≡ Stays outcome
+          → is_accepted outcome ≡ true → IsNamedNow k claim outcome
+      stays login outcome Fresh is h = stays_fresh login outcome (naming k login.mech claim) refl is h
+      stays login outcome (Loading p) is h = cc
+      stays login outcome (Named p key) is h = cc
+      stays login outcome (Checking p key e) is h = cc
+      stays login outcome (Proved p) is h = cc
+      stays login outcome (Authorized p) is h = cc
+      stays login outcome (Complete p) is h = cc
+      stays login outcome Failed is h = cc
+
+      moves_fresh : (login : KnownLogin) (outcome : Outcome) (next : KnownStage) (r : Result Pinned Outcome) → naming k login.mech claim ≡ r
+          → pinned_or r ≡ Moves outcome next → IsNamedNow k claim outcome
+      moves_fresh login outcome next (Err refusal) e is = cc
+      moves_fresh login outcome next (Ok pin) e is =
+          let pins = naming_pins k login.mech claim pin e in
+          let finds = naming_finds k login.mech claim pin e in
+          record {
+            place = pin.place;
+            version = sym (same _ outcome (Loading pin) next is) ∙ ap (λ (p : Pinned). outcomes.Pinned p.version) pins.0;
+            own = finds.0;
+            place_is = pins.1;
+            exists = finds.1;
+          }
+        where
+          same : (x y : Outcome) (s t : KnownStage) → Moves x s ≡ Moves y t → x ≡ y
+          same x y s t h = cc
+
+      moves : (login : KnownLogin) (outcome : Outcome) (next stage : KnownStage) → name1 k login claim stage ≡ Moves outcome next → IsNamedNow k claim outcome
+      moves login outcome next Fresh is = moves_fresh login outcome next (naming k login.mech claim) refl is
+      moves login outcome next (Loading p) is = cc
+      moves login outcome next (Named p key) is = cc
+      moves login outcome next (Checking p key e) is = cc
+      moves login outcome next (Proved p) is = cc
+      moves login outcome next (Authorized p) is = cc
+      moves login outcome next (Complete p) is = cc
+      moves login outcome next Failed is = cc
+
 -- ---- the same of a step of the machine, whose word and login are those
 
 -- the word of an edit is none of a login's
@@ -231,7 +313,7 @@ module _ (given : Given) (m : Machine) (c : ℕ) (rest : Option (List StepWord))
   check2_at (events.Close d) word on = cc
 
   authorize_at : (event : Event) → word_of event ≡ words.Authorize → is_on c event ≡ true
-      → (let o = (step given m event).0 in is_state o ≡ false → is_accepted o ≡ is_granted (known given m) said.pin)
+      → (let o = (step given m event).0 in is_state o ≡ false → is_accepted o ≡ is_granted (known given m) said.pin to_log_in)
   unfolding step
   authorize_at (events.Authorize d) word on = rw (eqb-true d c on) (authorized_where_granted (known given m) m.live c rest said tracked)
   authorize_at (events.Change edit) word on = edit_is_none edit words.Authorize word (λ h. cc) (λ h. cc) (λ h. cc) (λ h. cc) (λ h. cc) (λ h. cc)
@@ -263,13 +345,24 @@ module _ (given : Given) (m : Machine) (c : ℕ) (rest : Option (List StepWord))
   succeed_at (events.Fail d) word on = cc
   succeed_at (events.Close d) word on = cc
 
+-- the same of a naming and of an allows, which are given
+allows_at : (given : Given) (m : Machine) (c : ℕ) (rest : Option (List StepWord)) (said : Said) → IsTrackedIn given m c rest said → (wanted : List ℕ)
+    → (let o = (step given m (events.Allows c wanted)).0 in is_state o ≡ false → o ≡ yes_or_no (is_granted (known given m) said.pin wanted))
+unfolding step
+allows_at given m c rest said tracked wanted = allowed_where_granted (known given m) m.live c rest said tracked wanted
+
+name1_at : (given : Given) (m : Machine) (c : ℕ) (claim : Claim)
+    → (let o = (step given m (events.Name1 c claim)).0 in is_accepted o ≡ true → IsNamedNow (known given m) claim o)
+unfolding step
+name1_at given m c claim = named_now (known given m) m.live c claim
+
 -- ---- over runs
 
 -- what is tracked behind the prefix of a run
 prefix_tracked : (given : Given) (prefix : List Taken) (c : ℕ) → IsRun given (first_machine given) prefix
     → IsTrackedIn given (machine_after given (first_machine given) prefix) c (since_open (words_on c prefix)) (said_of given c prefix)
 prefix_tracked given prefix c run =
-    run_tracked given (first_machine given) prefix c [] (record { mech = None; pin = None; evidence = None }) run (record { fits = tt; is_said = tt })
+    run_tracked given (first_machine given) prefix c [] (record { opening = None; pin = None; evidence = None }) run (record { fits = tt; is_said = tt })
 
 pub proved_in_runs : (given : Given) (h : List Taken) → IsRun given (first_machine given) h → IsProvedWhereShown given h
 proved_in_runs given h run prefix t back c split word on gone =
@@ -294,3 +387,17 @@ by_right_in_runs given h run prefix t back c split word on told =
     let parts = run_split given (first_machine given) prefix t back (rw split at run) in
     let at = (succeed_at given (machine_after given (first_machine given) prefix) c (since_open (words_on c prefix)) (said_of given c prefix) (prefix_tracked given prefix c parts.0) t.event word on).1 in
     rw (sym parts.1) at (rw (known_is given prefix parts.0) at at) told
+
+pub pinned_in_runs : (given : Given) (h : List Taken) → IsRun given (first_machine given) h → IsPinnedAsOfNow given h
+pinned_in_runs given h run prefix t back c claim split event_is accepted =
+    let parts = run_split given (first_machine given) prefix t back (rw split at run) in
+    let outcome : t.outcome ≡ (step given (machine_after given (first_machine given) prefix) (events.Name1 c claim)).0 = rw event_is at parts.1 in
+    let at = name1_at given (machine_after given (first_machine given) prefix) c claim in
+    rw (sym outcome) at (rw (known_is given prefix parts.0) at at) accepted
+
+pub allowed_in_runs : (given : Given) (h : List Taken) → IsRun given (first_machine given) h → IsAllowedWhereGranted given h
+allowed_in_runs given h run prefix t back c wanted split event_is told =
+    let parts = run_split given (first_machine given) prefix t back (rw split at run) in
+    let outcome : t.outcome ≡ (step given (machine_after given (first_machine given) prefix) (events.Allows c wanted)).0 = rw event_is at parts.1 in
+    let at = allows_at given (machine_after given (first_machine given) prefix) c (since_open (words_on c prefix)) (said_of given c prefix) (prefix_tracked given prefix c parts.0) wanted in
+    rw (sym outcome) at (rw (known_is given prefix parts.0) at at) told

@@ -31,17 +31,17 @@ use Rattle.ely_domain.specs.Lines.{Taken}
 use Rattle.ely_domain.specs.Logins.{Pinned, KnownStage, KnownLogin, Live}
 use Rattle.ely_domain.specs.Machine.{Machine, Answered, Stepped, known, answered, answered_for, carried_out, with_answered, change, opening_fault, opened_or, opened_login, closed, first_machine, step}
 use Rattle.ely_domain.specs.Steps.{Reply, NotDue, Stays, Moves, reply, carried, is_carried, not_due, not_there}
-use Rattle.ely_domain.specs.Verdicts.{is_proof_of}
-use Rattle.ely_domain.specs.WhoGetsIn.{Said, said_of, last_on, mech_opened, pinned_by, evidence_shown, edit_made, edits_of, known_by, has_shown, is_shown, is_granted}
+use Rattle.ely_domain.specs.Verdicts.{exchange, is_proof_of}
+use Rattle.ely_domain.specs.WhoGetsIn.{Said, Opening, said_of, last_on, opened_by, pinned_by, evidence_shown, edit_made, edits_of, known_by, has_shown, is_shown, is_granted}
 use Rattle.ely_domain.proofs.Growing.{more, key_stays}
 use Rattle.ely_domain.proofs.Seeing.{itself_with, others_with, others_without}
-use Rattle.ely_domain.proofs.Tracking.{Fits, FitsStage, HoldsSaid, IsSaid, IsPinSaid, IsTracked, Tracks, said_next, word_if, tracks, refused_pins_nothing}
+use Rattle.ely_domain.proofs.Tracking.{Fits, FitsStage, HoldsSaid, opening_of, IsSaid, IsPinSaid, IsTracked, Tracks, said_next, word_if, tracks, refused_pins_nothing}
 use Rattle.ely_domain.proofs.WordLists.{next, ended, since_open_push}
 
 -- what is said of c after a step, whose login it is or not
 abbrev pub said_after : Given → ℕ → Said → Event → Outcome → Said
 said_after given c said event outcome = record {
-  mech = cond (is_on c event) (option_or (mech_opened event outcome) said.mech) said.mech;
+  opening = cond (is_on c event) (option_or (opened_by given event outcome) said.opening) said.opening;
   pin = cond (is_on c event) (option_or (pinned_by given event outcome) said.pin) said.pin;
   evidence = cond (is_on c event) (option_or (evidence_shown event outcome) said.evidence) said.evidence;
 }
@@ -57,10 +57,10 @@ said_refused given said event outcome h =
     rw (pins, opens event outcome h, shows event outcome h) refl
   where
     by_begin : (c : ℕ) (mech : Mech) (brought : Option (List ℕ)) (outcome : Outcome) → is_accepted outcome ≡ false
-        → mech_opened (events.Begin c mech brought) outcome ≡ None
+        → opened_by given (events.Begin c mech brought) outcome ≡ None
     by_begin c mech brought = elim [ outcomes.Opened serial challenge ↦ (λ h. cc) | _ ↦ (λ h. refl) ]
 
-    opens : (event : Event) (outcome : Outcome) → is_accepted outcome ≡ false → mech_opened event outcome ≡ None
+    opens : (event : Event) (outcome : Outcome) → is_accepted outcome ≡ false → opened_by given event outcome ≡ None
     opens (events.Begin c mech brought) outcome h = by_begin c mech brought outcome h
     opens _ outcome h = refl
 
@@ -144,30 +144,30 @@ unfolding answered
 other_step k live event c d apart = other_found k live event c d apart (login_of live.logins d)
 
 -- a permission stays as edits come
-granted_stays : (k : Known) (e : Edit) (o : Option Pinned) → is_granted k o ≡ true → is_granted (more k e) o ≡ true
+granted_stays : (k : Known) (e : Edit) (o : Option Pinned) (wanted : List ℕ) → is_granted k o wanted ≡ true → is_granted (more k e) o wanted ≡ true
 unfolding grants
-granted_stays k e None h = h
-granted_stays k e (Some p) h = h
+granted_stays k e None wanted h = h
+granted_stays k e (Some p) wanted h = h
 
 -- what was said stays true as edits come
-grows_holds : (k : Known) (e : Edit) (mech : Mech) (said : Said) → said.mech ≡ Some mech → (stage : KnownStage)
+grows_holds : (k : Known) (e : Edit) (opening : Opening) (said : Said) → said.opening ≡ Some opening → (stage : KnownStage)
     → HoldsSaid k said stage → HoldsSaid (more k e) said stage
-grows_holds k e mech said mech_is stage holds = by stage holds
+grows_holds k e opening said opening_is stage holds = by stage holds
   where
     pin_grows : (p : Pinned) → IsPinSaid k p said → IsPinSaid (more k e) p said
     pin_grows p is = record { pin = is.pin; past = omega (arith, is.past, length-append k.edits (e ∷ [])) }
 
     by_evidence : (p : Pinned) (o : Option Evidence) → p.version ≤ length k.edits
-        → is_shown (more k e) (Some mech) (Some p) o ≡ is_shown k (Some mech) (Some p) o
+        → is_shown (more k e) (Some opening) (Some p) o ≡ is_shown k (Some opening) (Some p) o
     by_evidence p None past = refl
-    by_evidence p (Some evidence) past = ap (λ key. is_proof_of key evidence) (key_stays k e mech p.version p.place past)
+    by_evidence p (Some evidence) past = ap (λ key. is_proof_of (exchange k.given opening.nonce p.claim) key evidence) (key_stays k e opening.mech p.version p.place past)
 
     shown_grows : (p : Pinned) → IsPinSaid k p said → has_shown k said ≡ true → has_shown (more k e) said ≡ true
     shown_grows p is shown =
-        rw (mech_is, is.pin) (by_evidence p said.evidence is.past ∙ rw (mech_is, is.pin) at shown)
+        rw (opening_is, is.pin) (by_evidence p said.evidence is.past ∙ rw (opening_is, is.pin) at shown)
 
-    granted_grows : is_granted k said.pin ≡ true → is_granted (more k e) said.pin ≡ true
-    granted_grows granted = granted_stays k e said.pin granted
+    granted_grows : is_granted k said.pin to_log_in ≡ true → is_granted (more k e) said.pin to_log_in ≡ true
+    granted_grows granted = granted_stays k e said.pin to_log_in granted
 
     by : (stage : KnownStage) → HoldsSaid k said stage → HoldsSaid (more k e) said stage
     by Fresh holds = tt
@@ -181,7 +181,7 @@ grows_holds k e mech said mech_is stage holds = by stage holds
 
 grows_said : (k : Known) (e : Edit) (said : Said) (found : Option KnownLogin) → IsSaid k said found → IsSaid (more k e) said found
 grows_said k e said None is = tt
-grows_said k e said (Some login) is = (is.0, grows_holds k e login.mech said is.0 login.stage is.1)
+grows_said k e said (Some login) is = (is.0, grows_holds k e (opening_of login) said is.0 login.stage is.1)
 
 -- what can't be opened is refused
 opening_refuses : (live : Live) (d : ℕ) (refusal : Outcome) → opening_fault live d ≡ Some refusal → is_accepted refusal ≡ false
@@ -226,14 +226,14 @@ module _ (given : Given) (m : Machine) (c : ℕ) (rest : Option (List StepWord))
 
       by : (b : Bool) → IsTrackedIn given m c (next rest (cond b (cond (is_accepted refusal) (Some words.Begin) None) None))
           (let next' = said_next given said (events.Begin d mech brought) refusal in
-          record { mech = cond b next'.mech said.mech; pin = cond b next'.pin said.pin; evidence = cond b next'.evidence said.evidence })
+          record { opening = cond b next'.opening said.opening; pin = cond b next'.pin said.pin; evidence = cond b next'.evidence said.evidence })
       by true = untracked (known given m) (login_of m.live.logins c) rest said (events.Begin d mech brought) refusal refused tracked
       by false = tracked
   step_begin d mech brought None is = by (eqb d c) refl
     where
       by : (b : Bool) → eqb d c ≡ b → IsTracked (known given m) (login_of (with_login m.live.logins d (opened_login given m mech brought)) c) (next rest (cond b (Some words.Begin) None))
           (let next' = said_next given said (events.Begin d mech brought) (outcomes.Opened (m.opened + 1) None) in
-          record { mech = cond b next'.mech said.mech; pin = cond b next'.pin said.pin; evidence = cond b next'.evidence said.evidence })
+          record { opening = cond b next'.opening said.opening; pin = cond b next'.pin said.pin; evidence = cond b next'.evidence said.evidence })
       by true e =
           rw (eqb-true d c e, itself_with m.live.logins c (opened_login given m mech brought))
           (record { fits = record { going = refl; need = refl }; is_said = (refl, tt) })
@@ -259,7 +259,7 @@ module _ (given : Given) (m : Machine) (c : ℕ) (rest : Option (List StepWord))
           → (let o : Outcome = cond (is_some (login_of m.live.logins d)) outcomes.Fine (outcomes.State states.Absent) in
           let next' = said_next given said (events.Close d) o in
           IsTracked (known given m) (login_of (without_login m.live.logins d) c) (next rest (cond b (cond (is_accepted o) (Some words.Close) None) None))
-          (record { mech = cond b next'.mech said.mech; pin = cond b next'.pin said.pin; evidence = cond b next'.evidence said.evidence }))
+          (record { opening = cond b next'.opening said.opening; pin = cond b next'.pin said.pin; evidence = cond b next'.evidence said.evidence }))
       by true e =
           rw (eqb-true d c e, login_of-without_login m.live.logins c c, eq-eqb c c refl) (closed_own (login_of m.live.logins c) _ tracked)
       by false e = rw (others_without m.live.logins d c (turned c d e)) tracked
@@ -300,7 +300,7 @@ since_pushed ws (Some w) = sym (since_open_push ws w)
 -- what is said after a run, where this was said before it
 abbrev pub said_past : Given → ℕ → Said → List Taken → Said
 said_past given c said h = record {
-  mech = fold (λ found t. cond (is_on c t.event) (option_or (mech_opened t.event t.outcome) found) found) said.mech h;
+  opening = fold (λ found t. cond (is_on c t.event) (option_or (opened_by given t.event t.outcome) found) found) said.opening h;
   pin = fold (λ found t. cond (is_on c t.event) (option_or (pinned_by given t.event t.outcome) found) found) said.pin h;
   evidence = fold (λ found t. cond (is_on c t.event) (option_or (evidence_shown t.event t.outcome) found) found) said.evidence h;
 }

@@ -1,5 +1,6 @@
 -- What a login's own steps say of it follows it through the machine: how far it has come, what it pinned, and what it showed.
 use Rattle.std.proofs.Common.{◌≡◌, ℕ, ◌+◌, ◌≤◌, Bool, true, false, not, cond, eqb, List, [], ◌∷◌, ◌++◌, length, Option, Some, None, Result, Ok, Err, refl, sym, ap, subst, ◌∙◌, arith}
+use Rattle.std.specs.Prelude.{IsSome}
 use Rattle.std.specs.List.{list_any}
 use Rattle.std.specs.Option.{option_map, option_or, ok_or}
 use Rattle.std.proofs.lemmas.Option.{same_Some}
@@ -30,9 +31,10 @@ use Rattle.ely_domain.specs.Given.{Given, place_of}
 use Rattle.ely_domain.specs.Histories.{is_end, is_ready_since, needed}
 use Rattle.ely_domain.specs.Identities.{Known, ident, key_at, grants, to_log_in}
 use Rattle.ely_domain.specs.Logins.{Pinned, KnownStage, KnownLogin}
-use Rattle.ely_domain.specs.Steps.{Reply, NotDue, Stays, Moves, claimed_name, is_other, is_claim_of, is_evidence_of, serving, naming, require, pinned_or, name1, name2, check1, check2, authorize, allows, succeed, fail, reply}
-use Rattle.ely_domain.specs.Verdicts.{is_proof_of, verdict}
-use Rattle.ely_domain.specs.WhoGetsIn.{Said, mech_opened, pinned_by, place_claimed, place_or_none, evidence_shown, is_shown, has_shown, is_granted}
+use Rattle.ely_domain.specs.Steps.{Reply, NotDue, Stays, Moves, claimed_name, is_other, is_claim_of, is_evidence_of, serving, naming, require, pinned_or, told_of_key, name1, name2, check1, check2, yes_or_no, authorize, allows, succeed, fail, reply}
+use Rattle.ely_domain.specs.Verdicts.{exchange, verdict}
+use Rattle.ely_domain.specs.WhoGetsIn.{Said, Opening, opened_by, pinned_by, place_or_none, evidence_shown, is_shown, has_shown, is_granted}
+use Rattle.ely_domain.proofs.Judging.{verdict_accepts, key_accepts}
 use Rattle.ely_domain.proofs.WordLists.{next, IsAt, moved_on, ended}
 
 -- the words since the open fit the stage
@@ -66,15 +68,19 @@ HoldsSaid known said (Named p k) = IsPinSaid known p said
 HoldsSaid known said (Checking p k e) = IsPinSaid known p said × (said.evidence ≡ Some e)
 HoldsSaid known said (Proved p) = IsPinSaid known p said × (has_shown known said ≡ true)
 HoldsSaid known said (Authorized p) =
-    IsPinSaid known p said × (has_shown known said ≡ true) × (is_granted known said.pin ≡ true)
+    IsPinSaid known p said × (has_shown known said ≡ true) × (is_granted known said.pin to_log_in ≡ true)
 HoldsSaid known said (Complete p) =
-    IsPinSaid known p said × (has_shown known said ≡ true) × (is_granted known said.pin ≡ true)
+    IsPinSaid known p said × (has_shown known said ≡ true) × (is_granted known said.pin to_log_in ≡ true)
 HoldsSaid known said Failed = Unit {0}
+
+-- what was said when a login was opened
+abbrev pub opening_of : KnownLogin → Opening
+opening_of login = record { mech = login.mech; nonce = login.nonce }
 
 -- the same of a login that may not be there
 abbrev pub IsSaid : Known → Said → Option KnownLogin → Type 0
 IsSaid known said None = Unit {0}
-IsSaid known said (Some login) = (said.mech ≡ Some login.mech) × HoldsSaid known said login.stage
+IsSaid known said (Some login) = (said.opening ≡ Some (opening_of login)) × HoldsSaid known said login.stage
 
 -- both
 pub record IsTracked (known : Known) (found : Option KnownLogin) (rest : Option (List StepWord)) (said : Said) : Type 0 where
@@ -84,7 +90,7 @@ pub record IsTracked (known : Known) (found : Option KnownLogin) (rest : Option 
 -- what is said after a step of the login
 abbrev pub said_next : Given → Said → Event → Outcome → Said
 said_next given said event outcome = record {
-  mech = option_or (mech_opened event outcome) said.mech;
+  opening = option_or (opened_by given event outcome) said.opening;
   pin = option_or (pinned_by given event outcome) said.pin;
   evidence = option_or (evidence_shown event outcome) said.evidence;
 }
@@ -95,7 +101,14 @@ word_if event outcome = cond (is_accepted outcome) (Some (word_of event)) None
 
 -- nothing pins where it is refused
 pub refused_pins_nothing : (given : Given) (event : Event) (outcome : Outcome) → is_accepted outcome ≡ false → pinned_by given event outcome ≡ None
-refused_pins_nothing given event = elim [ outcomes.Pinned version ↦ (λ h. cc) | _ ↦ (λ h. refl) ]
+refused_pins_nothing given event outcome h = by event outcome h
+  where
+    by_name1 : (c : ℕ) (claim : Claim) (outcome : Outcome) → is_accepted outcome ≡ false → pinned_by given (events.Name1 c claim) outcome ≡ None
+    by_name1 c claim = elim [ outcomes.Pinned version ↦ (λ h. cc) | _ ↦ (λ h. refl) ]
+
+    by : (event : Event) (outcome : Outcome) → is_accepted outcome ≡ false → pinned_by given event outcome ≡ None
+    by (events.Name1 c claim) outcome h = by_name1 c claim outcome h
+    by _ outcome h = refl
 
 -- where something is still needed, the login isn't ready
 pub not_ready : {rest : List StepWord} {w : StepWord} {ws : List StepWord} → IsAt rest (w ∷ ws) → is_ready_since (Some rest) ≡ false
@@ -144,6 +157,34 @@ module _ (known : Known) (mech : Mech) (claim : Claim) where
       by true true place serves h = cc
       by false own place serves h = cc
 
+  -- and only of a place that has an identity, by a name of the client's own
+  pub naming_finds : (pin : Pinned) → naming known mech claim ≡ Ok pin → (is_other claim ≡ false) × IsSome (ident known (length known.edits) pin.place)
+  unfolding naming serving
+  naming_finds pin is = by (is_claim_of mech claim) (is_other claim) (place_of known.given (claimed_name claim)) is
+    where
+      -- what serving looks for at a place
+      by_row : Option Row → Result Row Outcome
+      by_row o = ok_or o outcomes.Unknown >>= λ identity. ok_or (chosen mech identity) outcomes.NoCredential >>= λ c. Ok identity
+
+      by_place : (place : Place) (o : Option Row) → ident known (length known.edits) place ≡ o → after_serving place (by_row o) ≡ Ok pin
+          → IsSome (ident known (length known.edits) pin.place)
+      by_place place None e h = cc
+      by_place place (Some identity) e h = by_chosen (chosen mech identity) h
+        where
+          by_chosen : (o : Option (ℕ × Credential)) → after_serving place (ok_or o outcomes.NoCredential >>= λ c. Ok identity) ≡ Ok pin
+              → IsSome (ident known (length known.edits) pin.place)
+          by_chosen None h = cc
+          by_chosen (Some c) h =
+              let here : record { version = length known.edits; place = place; claim = claim } ≡ pin = same_Ok _ pin h in
+              subst (λ (p : Pinned). IsSome (ident known (length known.edits) p.place)) here (rw e refl)
+
+      by : (form own : Bool) (place : Result Place PipeFault) → after_tests form own place (λ p. by_row (ident known (length known.edits) p)) ≡ Ok pin
+          → (own ≡ false) × IsSome (ident known (length known.edits) pin.place)
+      by true false (Ok place) h = (refl, by_place place (ident known (length known.edits) place) refl h)
+      by true false (Err fault) h = cc
+      by true true place h = cc
+      by false own place h = cc
+
   serving_refuses : (place : Place) (refusal : Outcome) → serving known mech place ≡ Err refusal → is_accepted refusal ≡ false
   unfolding serving
   serving_refuses place refusal is = by (ident known (length known.edits) place) is
@@ -181,7 +222,7 @@ Tracks known login rest said event (Stays outcome) =
 Tracks known login rest said event (Moves outcome stage) =
     IsTracked known (Some (at_stage login stage)) (next rest (word_if event outcome)) (said_next known.given said event outcome)
 
-module _ (known : Known) (serial : ℕ) (mech : Mech) (nonce : List ℕ) (rest : List StepWord) (said : Said) (mech_is : said.mech ≡ Some mech) where
+module _ (known : Known) (serial : ℕ) (mech : Mech) (nonce : List ℕ) (rest : List StepWord) (said : Said) (opening_is : said.opening ≡ Some (record { mech = mech; nonce = nonce })) where
   abbrev login : KnownStage → KnownLogin
   login stage = record { serial = serial; mech = mech; nonce = nonce; stage = stage }
 
@@ -202,13 +243,13 @@ module _ (known : Known) (serial : ℕ) (mech : Mech) (nonce : List ℕ) (rest :
           ap (λ v. (let p : Pinned = record { version = v; place = pin.place; claim = claim } in p)) version ∙ sym pins.0 in
           record {
             fits = moved_on rest _ _ words.Name1 at.0 refl refl;
-            is_said = (mech_is, record { pin = rw pins.1 (ap Some again); past = omega (arith, version) });
+            is_said = (opening_is, record { pin = rw pins.1 (ap Some again); past = omega (arith, version) });
           }
       by (Err refusal) is =
           let refused = naming_refuses known mech claim refusal is in
           record {
             fits = rw refused at.0;
-            is_said = (mech_is, tt);
+            is_said = (opening_is, tt);
           }
   track_name1 c claim (Loading p) at = tt
   track_name1 c claim (Named p k) at = tt
@@ -218,9 +259,17 @@ module _ (known : Known) (serial : ℕ) (mech : Mech) (nonce : List ℕ) (rest :
   track_name1 c claim (Complete p) at = tt
   track_name1 c claim Failed at = tt
 
+  -- a step that is accepted and says nothing moves the login on
+  says_nothing : (event : Event) (o : Outcome) → is_accepted o ≡ true → (said_next known.given said event o ≡ said)
+      → (stage : KnownStage) → Fits (Some (login stage)) (next (Some rest) (Some (word_of event))) → HoldsSaid known said stage
+      → Tracks known (login stage) (Some rest) said event (Moves o stage)
+  says_nothing event o accepted nothing stage fits holds = rw (accepted, nothing) (record { fits = fits; is_said = (opening_is, holds) })
+
   track_name2 : (c n : ℕ) (stage : KnownStage) → TrackedAt stage
-      → Tracks known (login stage) (Some rest) said (events.Name2 c n) (name2 stage)
-  track_name2 c n (Loading p) at = record { fits = moved_on rest _ _ words.Name2 at.0 refl refl; is_said = (mech_is, record { pin = at.1.pin; past = at.1.past }) }
+      → Tracks known (login stage) (Some rest) said (events.Name2 c n) (name2 known (login stage) stage)
+  track_name2 c n (Loading p) at =
+      says_nothing (events.Name2 c n) (told_of_key known (login (Loading p)) p) (key_accepts known (login (Loading p)) p) refl (Named p tt)
+      (moved_on rest _ _ words.Name2 at.0 refl refl) (record { pin = at.1.pin; past = at.1.past })
   track_name2 c n Fresh at = tt
   track_name2 c n (Named p k) at = tt
   track_name2 c n (Checking p k e) at = tt
@@ -237,9 +286,9 @@ module _ (known : Known) (serial : ℕ) (mech : Mech) (nonce : List ℕ) (rest :
           (cond b (Moves outcomes.Fine (Checking p k evidence)) (Stays (outcomes.Mechanism mech)))
       by true = record {
         fits = moved_on rest _ _ words.Check1 at.0 refl refl;
-        is_said = (mech_is, (record { pin = at.1.pin; past = at.1.past }, refl));
+        is_said = (opening_is, (record { pin = at.1.pin; past = at.1.past }, refl));
       }
-      by false = record { fits = at.0; is_said = (mech_is, record { pin = at.1.pin; past = at.1.past }) }
+      by false = record { fits = at.0; is_said = (opening_is, record { pin = at.1.pin; past = at.1.past }) }
   track_check1 c n evidence Fresh at = tt
   track_check1 c n evidence (Loading p) at = tt
   track_check1 c n evidence (Checking p k e) at = tt
@@ -250,25 +299,22 @@ module _ (known : Known) (serial : ℕ) (mech : Mech) (nonce : List ℕ) (rest :
 
   -- what was said last of a login that is checked is what is judged
   pub shown_is : (p : Pinned) (e : Evidence) → IsPinSaid known p said → said.evidence ≡ Some e
-      → has_shown known said ≡ is_proof_of (key_at known mech p.version p.place) e
-  shown_is p e pin evidence = rw (mech_is, pin.pin, evidence) refl
+      → has_shown known said ≡ is_accepted (verdict (exchange known.given nonce p.claim) (key_at known mech p.version p.place) e)
+  shown_is p e pin evidence =
+      rw (opening_is, pin.pin, evidence) (sym (verdict_accepts (exchange known.given nonce p.claim) (key_at known mech p.version p.place) e))
 
   track_check2 : (c n : ℕ) (stage : KnownStage) → TrackedAt stage
       → Tracks known (login stage) (Some rest) said (events.Check2 c n) (check2 known (login stage) stage)
-  track_check2 c n (Checking p k (evidences.Plain password)) at =
-      by (is_proof_of (key_at known mech p.version p.place) (evidences.Plain password)) refl
+  track_check2 c n (Checking p k e) at =
+      by (verdict (exchange known.given nonce p.claim) (key_at known mech p.version p.place) e) refl (is_accepted _) refl
     where
-      e : Evidence
-      e = evidences.Plain password
-
-      by : (b : Bool) → is_proof_of (key_at known mech p.version p.place) (evidences.Plain password) ≡ b
-          → Tracks known (login (Checking p k (evidences.Plain password))) (Some rest) said (events.Check2 c n)
-          (let judged : Outcome = cond b (outcomes.Proved None) outcomes.Password in Moves judged (cond (is_accepted judged) (Proved p) Failed))
-      by true proved = record {
-        fits = moved_on rest _ _ words.Check2 at.0 refl refl;
-        is_said = (mech_is, (record { pin = at.1.0.pin; past = at.1.0.past }, shown_is p (evidences.Plain password) at.1.0 at.1.1 ∙ proved));
-      }
-      by false proved = record { fits = not_ready at.0; is_said = (mech_is, tt) }
+      by : (judged : Outcome) → verdict (exchange known.given nonce p.claim) (key_at known mech p.version p.place) e ≡ judged
+          → (b : Bool) → is_accepted judged ≡ b
+          → Tracks known (login (Checking p k e)) (Some rest) said (events.Check2 c n) (Moves judged (cond b (Proved p) Failed))
+      by judged is true accepted =
+          says_nothing (events.Check2 c n) judged accepted refl (Proved p) (moved_on rest _ _ words.Check2 at.0 refl refl)
+          (record { pin = at.1.0.pin; past = at.1.0.past }, shown_is p e at.1.0 at.1.1 ∙ ap is_accepted is ∙ accepted)
+      by judged is false refused = rw refused (record { fits = not_ready at.0; is_said = (opening_is, tt) })
   track_check2 c n Fresh at = tt
   track_check2 c n (Loading p) at = tt
   track_check2 c n (Named p k) at = tt
@@ -286,9 +332,9 @@ module _ (known : Known) (serial : ℕ) (mech : Mech) (nonce : List ℕ) (rest :
           (Moves (cond b outcomes.Authorized (outcomes.Denied p.version)) (cond b (Authorized p) (Proved p)))
       by true granted = record {
         fits = moved_on rest _ _ words.Authorize at.0 refl refl;
-        is_said = (mech_is, (record { pin = at.1.0.pin; past = at.1.0.past }, at.1.1, rw at.1.0.pin granted));
+        is_said = (opening_is, (record { pin = at.1.0.pin; past = at.1.0.past }, at.1.1, rw at.1.0.pin granted));
       }
-      by false granted = record { fits = at.0; is_said = (mech_is, (record { pin = at.1.0.pin; past = at.1.0.past }, at.1.1)) }
+      by false granted = record { fits = at.0; is_said = (opening_is, (record { pin = at.1.0.pin; past = at.1.0.past }, at.1.1)) }
   track_authorize c Fresh at = tt
   track_authorize c (Loading p) at = tt
   track_authorize c (Named p k) at = tt
@@ -301,9 +347,9 @@ module _ (known : Known) (serial : ℕ) (mech : Mech) (nonce : List ℕ) (rest :
       → Tracks known (login stage) (Some rest) said (events.Allows c wanted) (allows known wanted stage)
   track_allows c wanted (Complete p) at = by (grants known p.version p.place wanted)
     where
-      by : (b : Bool) → Tracks known (login (Complete p)) (Some rest) said (events.Allows c wanted) (Stays (cond b outcomes.Yes outcomes.No))
-      by true = record { fits = still_ended rest words.Allows at.0; is_said = (mech_is, (record { pin = at.1.0.pin; past = at.1.0.past }, at.1.1, at.1.2)) }
-      by false = record { fits = still_ended rest words.Allows at.0; is_said = (mech_is, (record { pin = at.1.0.pin; past = at.1.0.past }, at.1.1, at.1.2)) }
+      by : (b : Bool) → Tracks known (login (Complete p)) (Some rest) said (events.Allows c wanted) (Stays (yes_or_no b))
+      by true = record { fits = still_ended rest words.Allows at.0; is_said = (opening_is, (record { pin = at.1.0.pin; past = at.1.0.past }, at.1.1, at.1.2)) }
+      by false = record { fits = still_ended rest words.Allows at.0; is_said = (opening_is, (record { pin = at.1.0.pin; past = at.1.0.past }, at.1.1, at.1.2)) }
   track_allows c wanted Fresh at = tt
   track_allows c wanted (Loading p) at = tt
   track_allows c wanted (Named p k) at = tt
@@ -315,7 +361,7 @@ module _ (known : Known) (serial : ℕ) (mech : Mech) (nonce : List ℕ) (rest :
   track_succeed : (c : ℕ) (stage : KnownStage) → TrackedAt stage
       → Tracks known (login stage) (Some rest) said (events.Succeed c) (succeed known stage)
   track_succeed c (Authorized p) at =
-      record { fits = ended rest words.Succeed refl; is_said = (mech_is, (record { pin = at.1.0.pin; past = at.1.0.past }, at.1.1, at.1.2)) }
+      record { fits = ended rest words.Succeed refl; is_said = (opening_is, (record { pin = at.1.0.pin; past = at.1.0.past }, at.1.1, at.1.2)) }
   track_succeed c Fresh at = tt
   track_succeed c (Loading p) at = tt
   track_succeed c (Named p k) at = tt
@@ -325,7 +371,7 @@ module _ (known : Known) (serial : ℕ) (mech : Mech) (nonce : List ℕ) (rest :
   track_succeed c Failed at = tt
 
   failed : IsTracked known (Some (login Failed)) (Some (rest ++ words.Fail ∷ [])) said
-  failed = record { fits = rw (ended rest words.Fail refl) refl; is_said = (mech_is, tt) }
+  failed = record { fits = rw (ended rest words.Fail refl) refl; is_said = (opening_is, tt) }
 
   track_fail : (c : ℕ) (stage : KnownStage) → TrackedAt stage
       → Tracks known (login stage) (Some rest) said (events.Fail c) (fail stage)

@@ -24,7 +24,7 @@ use Rattle.ely_domain.specs.declared.event.Event.TheVariants as events
 use Rattle.ely_domain.specs.Given.{place_of}
 use Rattle.ely_domain.specs.Identities.{Known, ident, key_at, roles, grants, to_log_in}
 use Rattle.ely_domain.specs.Logins.{Pinned, KnownStage, KnownLogin}
-use Rattle.ely_domain.specs.Verdicts.{verdict}
+use Rattle.ely_domain.specs.Verdicts.{exchange, verdict}
 
 -- what a step does to a login that is there: it isn't due at the login's stage, it leaves the login as it is, or it moves it
 pub data Reply : Type 0 where
@@ -86,10 +86,14 @@ abbrev pub name1 : Known → KnownLogin → Claim → KnownStage → Reply
 name1 known login claim Fresh = pinned_or (naming known login.mech claim)
 name1 known login claim stage = NotDue
 
--- Name2: the key of what was pinned is there; PLAIN has no message of the server's
-abbrev pub name2 : KnownStage → Reply
-name2 (Loading pin) = moves outcomes.Named (table.name2 tt (Loading pin))
-name2 stage = NotDue
+-- what a login is told whose key is there: by PLAIN nothing more, since the server sends no message of its own
+abbrev pub told_of_key : Known → KnownLogin → Pinned → Outcome
+told_of_key known login pin = outcomes.Named
+
+-- Name2: the key of what was pinned is there
+abbrev pub name2 : Known → KnownLogin → KnownStage → Reply
+name2 known login (Loading pin) = moves (told_of_key known login pin) (table.name2 tt (Loading pin))
+name2 known login stage = NotDue
 
 -- Check1: a named login shows something of its mechanism
 abbrev pub check1 : KnownLogin → Evidence → KnownStage → Reply
@@ -102,7 +106,8 @@ check1 login evidence stage = NotDue
 -- Check2: what was shown is judged with the key of what was pinned
 abbrev pub check2 : Known → KnownLogin → KnownStage → Reply
 check2 known login (Checking pin key evidence) =
-    let judged = verdict (key_at known login.mech pin.version pin.place) evidence in
+    let said = exchange known.given login.nonce pin.claim in
+    let judged = verdict said (key_at known login.mech pin.version pin.place) evidence in
     moves judged (table.check2 (is_accepted judged) (Checking pin key evidence))
 check2 known login stage = NotDue
 
@@ -113,10 +118,13 @@ authorize known (Proved pin) =
     moves (if granted then outcomes.Authorized else outcomes.Denied pin.version) (table.authorize granted (Proved pin))
 authorize known stage = NotDue
 
+-- whether a permission is granted
+abbrev pub yes_or_no : Bool → Outcome
+yes_or_no granted = if granted then outcomes.Yes else outcomes.No
+
 -- Allows: a complete login is told whether it has the permission, as of the pinned version
 abbrev pub allows : Known → List ℕ → KnownStage → Reply
-allows known wanted (Complete pin) =
-    Stays (if grants known pin.version pin.place wanted then outcomes.Yes else outcomes.No)
+allows known wanted (Complete pin) = Stays (yes_or_no (grants known pin.version pin.place wanted))
 allows known wanted stage = NotDue
 
 -- Succeed: an authorized login is complete, and is told who it is, as of the pinned version
@@ -132,7 +140,7 @@ fail stage = moves outcomes.Fine (table.fail stage)
 -- what a step does to the login that it is on
 abbrev pub reply : Known → KnownLogin → Event → Reply
 reply known login (events.Name1 c claim) = name1 known login claim login.stage
-reply known login (events.Name2 c serial) = name2 login.stage
+reply known login (events.Name2 c serial) = name2 known login login.stage
 reply known login (events.Check1 c serial evidence) = check1 login evidence login.stage
 reply known login (events.Check2 c serial) = check2 known login login.stage
 reply known login (events.Authorize c) = authorize known login.stage

@@ -5,7 +5,7 @@ ghost use Rattle.ely_domain.specs.Contexts.{HoldsIts, IsReply, StaysSound, read_
 ghost use Rattle.ely_domain.specs.Costs.{RoseBy, proof_cost, check_cost};
 ghost use Rattle.ely_domain.specs.Identities.{Known};
 ghost use Rattle.ely_domain.specs.Steps.{is_evidence_of, check1, check2};
-ghost use Rattle.ely_domain.specs.Verdicts.{verdict};
+ghost use Rattle.ely_domain.specs.Verdicts.{Exchange, verdict};
 
 use ely_config::Config;
 use ely_context::Context;
@@ -57,7 +57,8 @@ pub(crate) fn check1(context: &mut Context, evidence: Evidence) -> Outcome
 /// The verdict on what was shown.
 fn judge<L: Ledger>(ready: &Ready, evidence: &Evidence, steps: &mut Steps<L>) -> Outcome
     requires { is_evidence_of ready.now.mech evidence.now ≡ true }
-    ensures value { result ≡ verdict (Some ready.now) evidence.now }
+    ensures value { (exchange : Exchange)
+        → result ≡ verdict exchange (Some ready.now) evidence.now }
     ensures cost { RoseBy steps.old steps.new (proof_cost (Some ready.now) evidence.now) }
 {
     match evidence {

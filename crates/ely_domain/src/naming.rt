@@ -214,7 +214,9 @@ pub(crate) fn name2<L: Ledger>(
     steps: &mut Steps<L>,
 ) -> Result<Outcome, NoMemory>
     requires { HoldsIts (read_of config.now tables.now) context.old.mech context.old.stage }
-    ensures reply { IfOk result (λ outcome. IsReply (name2 (seen_login context.old).stage)
+    ensures reply { IfOk result (λ outcome. IsReply
+        (name2 (read_of config.now tables.now) (seen_login context.old)
+        (seen_login context.old).stage)
         (λ state. Outcome.Gone) context.old outcome context.new) }
     ensures sound { StaysSound (read_of config.now tables.now) context.old context.new }
     ensures err { OnErr result (context.new ≡ context.old) }

@@ -194,14 +194,55 @@ const SALTED_TEXT: &[u8] = b"1 0 1 add ok 1
 14 0 8 bad-line cred turns
 ";
 
+/// Edits behind a login's naming: it goes on as it was pinned, and the next login is of the identity that they made.
+const PINNED: &[u8] = b"{}
+0 add main user
+0 set-cred main user 1 clear pencil
+0 set-attr main user groups staff
+0 open 1 PLAIN
+0 plain 1 AHVzZXIAcGVuY2ls
+0 remove main user
+0 add main user
+0 set-cred main user 1 clear other
+0 set-attr main user groups guests
+0 authorize 1
+0 succeed 1
+0 allows 1 login
+0 open 2 PLAIN
+0 plain 2 AHVzZXIAcGVuY2ls
+";
+
+const PINNED_TEXT: &[u8] = b"1 0 1 add ok 1
+2 0 2 set-cred ok 2
+3 0 3 set-attr ok 3
+4 0 4 open ok 1
+5 0 5 name1 pinned 3 -
+6 0 5 name2 named -
+7 0 5 check1 ok
+8 0 5 check2 proved
+9 0 6 remove ok 4
+10 0 7 add ok 5
+11 0 8 set-cred ok 6
+12 0 9 set-attr ok 7
+13 0 10 authorize authorized
+14 0 11 succeed established 3 main user roles=staff
+15 0 12 allows yes
+16 0 13 open ok 2
+17 0 14 name1 pinned 7 -
+18 0 14 name2 named -
+19 0 14 check1 ok
+20 0 14 check2 password
+";
+
 #[test]
 fn scripts_print_their_history(rt: HostRuntime) -> Result<(), Fail> {
-    let rows: [Row; 5] = [
+    let rows: [Row; 6] = [
         (b"{}", 0, b""),
         (b"{}\n", 0, b""),
         (VERBS, 0, VERBS_TEXT),
         (REFUSED, 0, REFUSED_TEXT),
         (SALTED, 0, SALTED_TEXT),
+        (PINNED, 0, PINNED_TEXT),
     ];
     assert_eq!(rt; first_wrong(&rt, &rows)?, None);
     Ok(())

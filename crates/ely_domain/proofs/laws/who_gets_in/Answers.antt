@@ -1,4 +1,4 @@
-use Rattle.ely_domain.proofs.GetsIn.{proved_in_runs, authorized_in_runs, established_in_runs, by_right_in_runs}
+use Rattle.ely_domain.proofs.GetsIn.{pinned_in_runs, proved_in_runs, authorized_in_runs, established_in_runs, by_right_in_runs, allowed_in_runs}
 use Rattle.ely_domain.proofs.laws.who_gets_in.Goals as goal
 
 pub returns-clause-proved : goal.returns-clause-proved
@@ -12,3 +12,9 @@ returns-clause-established c = established_in_runs
 
 pub returns-clause-by_right : goal.returns-clause-by_right
 returns-clause-by_right c = by_right_in_runs
+
+pub returns-clause-pinned : goal.returns-clause-pinned
+returns-clause-pinned c = pinned_in_runs
+
+pub returns-clause-allowed : goal.returns-clause-allowed
+returns-clause-allowed c = allowed_in_runs
