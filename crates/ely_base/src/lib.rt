@@ -22,7 +22,9 @@ pub use number::{push_number, read_number};
 pub use parts::{count_of, cut_at, first_offset, text_len};
 pub use printable::{are_printable_but, is_printable_but};
 pub use refused::{NoMemory, Refused, or_fault, or_no_memory, refused_as};
-pub use texts::{TextFault, is_base64, push_base64, read_base64, read_hex, write_base64};
+pub use texts::{
+    TextFault, is_base64, push_base64, read_base64, read_hex, write_base64, write_hex,
+};
 pub use word::{push_word, read_word, write_word};
 
 #[cfg(test)]

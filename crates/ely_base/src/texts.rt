@@ -7,7 +7,7 @@ ghost use Rattle.base64.specs.GeneralPurpose.{decode_of, IsBytes};
 ghost use Rattle.base64.specs.Engines.{standard};
 ghost use Rattle.ely_base.specs.Appended.{Extends};
 ghost use Rattle.ely_base.specs.Refused.{Gives};
-ghost use Rattle.ely_base.specs.Texts.{base64_of, base64_text, is_base64, hex_of, is_hex};
+ghost use Rattle.ely_base.specs.Texts.{base64_of, base64_text, is_base64, hex_of, hex_text, is_hex};
 
 use crate::bytes::Bytes;
 use crate::refused::{NoMemory, Refused};
@@ -121,4 +121,12 @@ pub fn read_hex(alloc: Global, text: &[u8]) -> Result<Bytes, Refused<TextFault>>
         Err(FromHexError::OutOfMemory) => Err(Refused::NoMemory),
         Err(_) => Err(Refused::Fault(TextFault::Bad)),
     }
+}
+
+/// The lower-case hexadecimal text of the bytes (RFC 4648 section 8).
+pub fn write_hex(alloc: Global, bytes: &[u8]) -> Result<Bytes, NoMemory>
+    ensures { IfOk result (λ text. text ≡ hex_text bytes.now) }
+{
+    let text = hex::encode(alloc, bytes)?;
+    Ok(Bytes::of(text.into_bytes()))
 }

@@ -1,10 +1,9 @@
 -- What a context stands for.
-use Rattle.std.specs.Prelude.{ℕ, List, Option, Some, None}
+use Rattle.std.specs.Prelude.{ℕ, List, Option}
 use Rattle.ely_cred.specs.Keys.{Ready}
 use Rattle.ely_context.specs.declared.naming.Naming.{Naming}
 use Rattle.ely_context.specs.declared.pin.Pin.{Pin}
 use Rattle.ely_context.specs.declared.stage.Stage.{Stage}
-use Rattle.ely_context.specs.declared.stage.Stage.TheVariants.{Checking}
 use Rattle.ely_context.specs.Stages.{Login}
 use Rattle.ely_script.specs.declared.claim.Evidence.{Evidence}
 
@@ -19,8 +18,3 @@ ContextLogin = Login Pin Naming Evidence
 -- the key of a named login, with the server's first message where its client was sent one
 abbrev pub naming : Ready → Option (List ℕ) → Naming
 naming ready server_first = record { ready = ready; server_first = server_first }
-
--- the key by which a checked context is judged, and what it shows
-abbrev pub judged_parts : ContextStage → Option (Ready × Evidence)
-judged_parts (Checking pin key evidence) = Some (key.ready, evidence)
-judged_parts _ = None

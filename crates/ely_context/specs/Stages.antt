@@ -53,6 +53,11 @@ module _ {P K E : Type 0} where
   loading_pin (Loading pin) = Some pin
   loading_pin _ = None
 
+  -- what a named login pinned, and what it is judged by
+  abbrev pub named_parts : Stage P K E → Option (P × K)
+  named_parts (Named pin key) = Some (pin, key)
+  named_parts _ = None
+
   -- what was pinned, of a proved login
   abbrev pub proved_pin : Stage P K E → Option P
   proved_pin (Proved pin) = Some pin
@@ -63,9 +68,9 @@ module _ {P K E : Type 0} where
   complete_pin (Complete pin) = Some pin
   complete_pin _ = None
 
-  -- what a login is judged by that is checked, and what it shows
-  abbrev pub checked_parts : Stage P K E → Option (K × E)
-  checked_parts (Checking pin key evidence) = Some (key, evidence)
+  -- what a login pinned that is checked, what it is judged by, and what it shows
+  abbrev pub checked_parts : Stage P K E → Option (P × K × E)
+  checked_parts (Checking pin key evidence) = Some (pin, key, evidence)
   checked_parts _ = None
 
   -- the login at another stage

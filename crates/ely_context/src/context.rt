@@ -2,8 +2,8 @@
 
 ghost use Rattle.std.specs.Prelude.{◌≡◌, None, Some, OnOk, IfOk, IfErr, OnErr};
 ghost use Rattle.std.specs.Option.{option_map, option_and_then, option_copied};
-ghost use Rattle.ely_context.specs.Contexts.{naming, judged_parts};
-ghost use Rattle.ely_context.specs.Stages.{state_of, pin_of, key_of, evidence_of, loading_pin, proved_pin, complete_pin};
+ghost use Rattle.ely_context.specs.Contexts.{naming};
+ghost use Rattle.ely_context.specs.Stages.{state_of, pin_of, key_of, evidence_of, loading_pin, named_parts, proved_pin, complete_pin, checked_parts};
 ghost use Rattle.ely_context.specs.ContextTable.{begin, name1, name2, check1, check2, authorize, succeed, fail, after};
 
 use crate::naming::Naming;
@@ -115,6 +115,14 @@ impl Context {
         self.stage.loading()
     }
 
+    /// What it pinned and what it is judged by, while it is named.
+    pub fn named(&self) -> Option<(&Pin, &Naming)>
+        ensures { option_map (λ parts. (parts.0.now, parts.1.now)) result
+            ≡ named_parts self.now.stage }
+    {
+        self.stage.named()
+    }
+
     /// What it pinned, while it is proved.
     pub fn proved(&self) -> Option<&Pin>
         ensures { option_copied result ≡ proved_pin self.now.stage }
@@ -129,13 +137,12 @@ impl Context {
         self.stage.complete()
     }
 
-    /// The key by which it is judged and what it shows, while it is checked.
-    pub fn checking(&self) -> Option<(&Ready, &Evidence)>
-        ensures { option_map (λ parts. (parts.0.now, parts.1.now)) result
-            ≡ judged_parts self.now.stage }
+    /// What it pinned, what it is judged by and what it shows, while it is checked.
+    pub fn checking(&self) -> Option<(&Pin, &Naming, &Evidence)>
+        ensures { option_map (λ parts. (parts.0.now, parts.1.now, parts.2.now)) result
+            ≡ checked_parts self.now.stage }
     {
-        let (key, evidence) = self.stage.checking()?;
-        Some((&key.ready, evidence))
+        self.stage.checking()
     }
 
     /// Names a fresh login. A refusal hands the pin back.

@@ -3,7 +3,7 @@
 ghost use Rattle.std.specs.Prelude.{◌≡◌, None, Some, OnOk, IfErr, OnErr};
 ghost use Rattle.std.specs.Option.{option_copied, option_map};
 ghost use Rattle.ely_context.specs.ContextTable.{name1, name2, check1, check2, authorize, succeed, fail};
-ghost use Rattle.ely_context.specs.Stages.{state_of, pin_of, key_of, evidence_of, loading_pin, proved_pin, complete_pin, checked_parts};
+ghost use Rattle.ely_context.specs.Stages.{state_of, pin_of, key_of, evidence_of, loading_pin, named_parts, proved_pin, complete_pin, checked_parts};
 
 use ely_script::StateWord;
 use std::mem;
@@ -86,6 +86,16 @@ impl<P: Drop, K: Drop, E: Drop> Stage<P, K, E> {
         }
     }
 
+    /// What a named login pinned, and what it is judged by.
+    pub(crate) fn named(&self) -> Option<(&P, &K)>
+        ensures { option_map (λ parts. (parts.0.now, parts.1.now)) result ≡ named_parts self.now }
+    {
+        match self {
+            Stage::Named(pin, key) => Some((pin, key)),
+            _ => None,
+        }
+    }
+
     /// What a proved login pinned.
     pub(crate) fn proved(&self) -> Option<&P>
         ensures { option_copied result ≡ proved_pin self.now }
@@ -106,12 +116,13 @@ impl<P: Drop, K: Drop, E: Drop> Stage<P, K, E> {
         }
     }
 
-    /// What a login is judged by that is checked, and what it shows.
-    pub(crate) fn checking(&self) -> Option<(&K, &E)>
-        ensures { option_map (λ parts. (parts.0.now, parts.1.now)) result ≡ checked_parts self.now }
+    /// What a login pinned that is checked, what it is judged by, and what it shows.
+    pub(crate) fn checking(&self) -> Option<(&P, &K, &E)>
+        ensures { option_map (λ parts. (parts.0.now, parts.1.now, parts.2.now)) result
+            ≡ checked_parts self.now }
     {
         match self {
-            Stage::Checking(_, key, evidence) => Some((key, evidence)),
+            Stage::Checking(pin, key, evidence) => Some((pin, key, evidence)),
             _ => None,
         }
     }

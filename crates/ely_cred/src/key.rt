@@ -1,10 +1,10 @@
 //! A key that a login is judged by, with all that it was derived of.
 
-ghost use Rattle.std.specs.Prelude.{◌≡◌, Some, IfOk};
+ghost use Rattle.std.specs.Prelude.{◌≡◌, ◌↔◌, Some, IsTrue, IfOk};
 ghost use Rattle.ely_cred.specs.Keys.{ready_from, key_of};
 
 use ely_base::{Bytes, Name, NoMemory};
-use ely_hash::ScramKeys;
+use ely_hash::{ScramKeys, same};
 use ely_row::{Ha1, Mech, Params, Salted, StoredCred};
 use std::alloc::Global;
 use std::marker::Model;
@@ -146,5 +146,16 @@ impl Ready {
             params: self.params.copy(alloc)?,
             key: self.key.copy(alloc)?,
         })
+    }
+
+    /// Whether both are equal. The keys are, where all is that they were derived of.
+    pub fn same(&self, other: &Ready) -> bool
+        ensures { IsTrue result ↔ (self.now ≡ other.now) }
+    {
+        self.mech == other.mech
+            && same(self.realm.bytes(), other.realm.bytes())
+            && same(self.name.bytes(), other.name.bytes())
+            && self.cred.same(&other.cred)
+            && self.params.same(&other.params)
     }
 }

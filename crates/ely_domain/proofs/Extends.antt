@@ -14,7 +14,7 @@ use Rattle.ely_domain.specs.Histories.{IsRun, machine_after}
 use Rattle.ely_domain.specs.Keeping.{Kept, word_due, stands_for, kept_after, first_kept}
 use Rattle.ely_domain.specs.Legal.{IsWhole}
 use Rattle.ely_domain.specs.Lines.{Taken, Ran, taken, after_first, after_event, carried_after, run_parts, ran, AreShown, kept_past}
-use Rattle.ely_domain.specs.Machine.{Machine, Stepped, first_machine, step}
+use Rattle.ely_domain.specs.Machine.{Machine, first_machine, step}
 use Rattle.ely_domain.specs.Parts.{Part, actor_of, parts_of, event_of}
 use Rattle.ely_domain.specs.Replays.{Made, Told, made_by, told_by, made_of, steps_of, steps_told, kept_told, own_count, replayed_after, replayed}
 use Rattle.ely_domain.proofs.FileOrder.{ordered_from}

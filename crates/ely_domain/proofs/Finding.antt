@@ -1,9 +1,9 @@
 -- What a naming finds.
-use Rattle.std.proofs.Common.{◌≡◌, ℕ, Bool, true, false, not, List, length, Option, Some, None, Result, Ok, Err, refl, sym, ap, ◌∙◌}
+use Rattle.std.proofs.Common.{◌≡◌, ℕ, true, false, List, length, Option, Some, None, Result, Ok, Err, refl, ap}
 use Rattle.std.specs.Prelude.{IsSome}
 use Rattle.std.specs.Option.{ok_or}
 use Rattle.ely_base.specs.declared.refused.Refused.{Refused}
-use Rattle.ely_base.specs.declared.refused.Refused.TheVariants.{Fault, NoMemory}
+use Rattle.ely_base.specs.declared.refused.Refused.TheVariants.{Fault}
 use Rattle.ely_base.specs.Refused.{◌>>=◌, Fails}
 use Rattle.ely_row.specs.declared.mech.Mech.{Mech}
 use Rattle.ely_row.specs.declared.place.PipeFault.{PipeFault}

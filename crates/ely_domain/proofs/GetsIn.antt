@@ -1,35 +1,30 @@
 -- Who gets in, over every run of the machine.
-use Rattle.std.proofs.Common.{◌≡◌, ℕ, Bool, true, false, cond, eqb, List, [], ◌∷◌, ◌++◌, Option, Some, None, Result, Ok, Err, refl, sym, ap, subst, ◌∙◌, eqb-true}
-use Rattle.std.specs.Prelude.{is_some}
-use Rattle.std.specs.List.{list_any}
+use Rattle.std.proofs.Common.{◌≡◌, ℕ, Bool, true, false, cond, eqb, List, [], Option, Some, None, Result, Ok, Err, refl, sym, ap, ◌∙◌, eqb-true}
 use Rattle.ely_row.specs.declared.edit.Edit.{Edit}
 use Rattle.ely_row.specs.declared.edit.Edit.TheVariants as edits
 use Rattle.ely_script.specs.declared.claim.Claim.{Claim}
-use Rattle.ely_script.specs.declared.claim.Evidence.{Evidence}
-use Rattle.ely_script.specs.declared.claim.Evidence.TheVariants as evidences
 use Rattle.ely_script.specs.declared.outcome.Outcome.{Outcome}
 use Rattle.ely_script.specs.declared.outcome.Outcome.TheVariants as outcomes
-use Rattle.ely_script.specs.declared.word.StateWord.TheVariants as states
 use Rattle.ely_script.specs.declared.word.StepWord.{StepWord}
 use Rattle.ely_script.specs.declared.word.StepWord.TheVariants as words
 use Rattle.ely_script.specs.Outcomes.{is_accepted}
 use Rattle.ely_context.specs.declared.stage.Stage.TheVariants.{Fresh, Loading, Named, Checking, Proved, Authorized, Complete, Failed}
 use Rattle.ely_context.specs.Logins.{login_of}
 use Rattle.ely_context.specs.Stages.{state_of}
+use Rattle.ely_job.specs.Dones.{Done}
 use Rattle.ely_domain.specs.declared.event.Event.{Event}
 use Rattle.ely_domain.specs.declared.event.Event.TheVariants as events
 use Rattle.ely_domain.specs.Events.{edit_word, word_of, is_on}
 use Rattle.ely_domain.specs.Given.{Given}
-use Rattle.ely_domain.specs.Histories.{IsRun, machine_after, words_on, since_open, is_end, is_ready, is_ready_since, is_established, IsEstablishedWhereReady}
-use Rattle.ely_domain.specs.Identities.{Known, key_at, grants, roles, to_log_in}
+use Rattle.ely_domain.specs.Histories.{IsRun, machine_after, words_on, since_open, is_ready, is_ready_since, is_established, IsEstablishedWhereReady}
+use Rattle.ely_domain.specs.Identities.{Known, grants, roles, to_log_in}
 use Rattle.ely_domain.specs.Lines.{Taken}
 use Rattle.ely_domain.specs.Logins.{Pinned, KnownStage, KnownLogin, Live}
 use Rattle.ely_domain.specs.Machine.{Machine, Answered, known, answered, answered_for, carried_out, first_machine, step}
 use Rattle.ely_domain.specs.Steps.{Reply, NotDue, Stays, Moves, reply, carried, is_carried, not_due, not_there, naming, pinned_or, name1, check2, authorize, yes_or_no, allows, succeed}
-use Rattle.ely_domain.specs.WhoGetsIn.{Said, said_of, known_by, has_shown, is_granted, is_gone, is_state, is_pinned, HasRight, IsNamedNow, IsPinnedAsOfNow, IsProvedWhereShown, IsAuthorizedWhereGranted, IsEstablishedByRight, IsAllowedWhereGranted}
+use Rattle.ely_domain.specs.WhoGetsIn.{Said, said_of, has_shown, is_granted, is_gone, is_state, HasRight, IsNamedNow, IsPinnedAsOfNow, IsProvedWhereShown, IsAuthorizedWhereGranted, IsEstablishedByRight, IsAllowedWhereGranted}
 use Rattle.ely_domain.proofs.Runs.{IsTrackedIn, run_tracked, run_split, known_is}
 use Rattle.ely_domain.proofs.Tracking.{Fits, FitsStage, HoldsSaid, IsTracked, opening_of, naming_pins, naming_finds, naming_refuses, shown_is, not_ready}
-use Rattle.ely_domain.proofs.WordLists.{IsAt}
 
 -- what a step of the login c answers, by what is found and what its reply is
 module _ (P : Outcome → Type 0) (k : Known) (live : Live) (event : Event) (c : ℕ) where
@@ -67,8 +62,8 @@ module _ (k : Known) (live : Live) (c : ℕ) (rest : Option (List StepWord)) (sa
   at_login login is = rw is at tracked
 
   -- a check that isn't gone
-  pub proved_where_shown : (n : ℕ) → (let o = (answered k live (events.Check2 c n) c).outcome in is_gone o ≡ false → is_accepted o ≡ has_shown k said)
-  proved_where_shown n = by_answer (λ o. is_gone o ≡ false → is_accepted o ≡ has_shown k said) k live (events.Check2 c n) c
+  pub proved_where_shown : (n : ℕ) (brought : Option Done) → (let o = (answered k live (events.Check2 c n brought) c).outcome in is_gone o ≡ false → is_accepted o ≡ has_shown k said)
+  proved_where_shown n brought = by_answer (λ o. is_gone o ≡ false → is_accepted o ≡ has_shown k said) k live (events.Check2 c n brought) c
       (λ login is h. cc) (λ h. cc) (λ n e h. cc) (λ login is outcome e. stays login outcome login.stage e)
       (λ login is outcome stage e _. moves login outcome stage login.stage (at_login login is).is_said e)
     where
@@ -299,12 +294,12 @@ module _ (given : Given) (m : Machine) (c : ℕ) (rest : Option (List StepWord))
   check2_at : (event : Event) → word_of event ≡ words.Check2 → is_on c event ≡ true
       → (let o = (step given m event).0 in is_gone o ≡ false → is_accepted o ≡ has_shown (known given m) said)
   unfolding step
-  check2_at (events.Check2 d n) word on = rw (eqb-true d c on) (proved_where_shown (known given m) m.live c rest said tracked n)
+  check2_at (events.Check2 d n brought) word on = rw (eqb-true d c on) (proved_where_shown (known given m) m.live c rest said tracked n brought)
   check2_at (events.Change edit) word on = edit_is_none edit words.Check2 word (λ h. cc) (λ h. cc) (λ h. cc) (λ h. cc) (λ h. cc) (λ h. cc)
   check2_at (events.Bad bad) word on = cc
   check2_at (events.Begin d mech brought) word on = cc
   check2_at (events.Name1 d claim) word on = cc
-  check2_at (events.Name2 d n) word on = cc
+  check2_at (events.Name2 d n brought) word on = cc
   check2_at (events.Check1 d n evidence) word on = cc
   check2_at (events.Authorize d) word on = cc
   check2_at (events.Allows d wanted) word on = cc
@@ -320,9 +315,9 @@ module _ (given : Given) (m : Machine) (c : ℕ) (rest : Option (List StepWord))
   authorize_at (events.Bad bad) word on = cc
   authorize_at (events.Begin d mech brought) word on = cc
   authorize_at (events.Name1 d claim) word on = cc
-  authorize_at (events.Name2 d n) word on = cc
+  authorize_at (events.Name2 d n brought) word on = cc
   authorize_at (events.Check1 d n evidence) word on = cc
-  authorize_at (events.Check2 d n) word on = cc
+  authorize_at (events.Check2 d n brought) word on = cc
   authorize_at (events.Allows d wanted) word on = cc
   authorize_at (events.Succeed d) word on = cc
   authorize_at (events.Fail d) word on = cc
@@ -337,9 +332,9 @@ module _ (given : Given) (m : Machine) (c : ℕ) (rest : Option (List StepWord))
   succeed_at (events.Bad bad) word on = cc
   succeed_at (events.Begin d mech brought) word on = cc
   succeed_at (events.Name1 d claim) word on = cc
-  succeed_at (events.Name2 d n) word on = cc
+  succeed_at (events.Name2 d n brought) word on = cc
   succeed_at (events.Check1 d n evidence) word on = cc
-  succeed_at (events.Check2 d n) word on = cc
+  succeed_at (events.Check2 d n brought) word on = cc
   succeed_at (events.Authorize d) word on = cc
   succeed_at (events.Allows d wanted) word on = cc
   succeed_at (events.Fail d) word on = cc

@@ -1,5 +1,5 @@
 -- What a further edit leaves as it was.
-use Rattle.std.proofs.Common.{◌≡◌, ℕ, ◌≤◌, List, [], ◌∷◌, ◌++◌, length, Option, Some, refl, sym, ap, ◌∙◌, arith}
+use Rattle.std.proofs.Common.{◌≡◌, ℕ, ◌≤◌, List, [], ◌∷◌, ◌++◌, length, Option, Some, sym, ap, ◌∙◌, arith}
 use Rattle.std.specs.Option.{option_and_then}
 use Rattle.std.proofs.lemmas.List.{take-append-le, length-append}
 use Rattle.ely_row.specs.declared.edit.Edit.{Edit}
@@ -8,11 +8,12 @@ use Rattle.ely_row.specs.declared.place.Place.{Place}
 use Rattle.ely_row.specs.Edits.{row}
 use Rattle.ely_table.specs.Faults.{texts_of}
 use Rattle.ely_cred.specs.Keys.{ready_of}
+use Rattle.ely_context.specs.declared.naming.Naming.{Naming}
 use Rattle.ely_context.specs.declared.pin.Pin.{Pin}
 use Rattle.ely_context.specs.declared.stage.Stage.TheVariants.{Fresh, Loading, Named, Checking, Proved, Authorized, Complete, Failed}
 use Rattle.ely_context.specs.Contexts.{ContextStage, ContextLogin}
 use Rattle.ely_domain.specs.declared.prepared.Prepared.{Prepared}
-use Rattle.ely_domain.specs.Contexts.{IsPin, HoldsIts, HasHandout, IsSound, pinned, prepared_for}
+use Rattle.ely_domain.specs.Contexts.{IsPin, IsKey, HoldsIts, HasHandout, IsSound}
 use Rattle.ely_domain.specs.Identities.{Known, ident, key_at, roles_in, roles}
 use Rattle.ely_domain.specs.Given.{realms, role_attribute}
 
@@ -47,34 +48,40 @@ pin_stays known e mech p is = record {
   form = is.form;
 }
 
-holds_stay : (known : Known) (e : Edit) (mech : Mech) (stage : ContextStage) → HoldsIts known mech stage → HoldsIts (more known e) mech stage
-holds_stay known e mech Fresh holds = tt
-holds_stay known e mech (Loading p) holds = pin_stays known e mech p holds
-holds_stay known e mech (Named p key) holds =
-    (pin_stays known e mech p holds.0, key_stays known e mech p.version p.place holds.0.past ∙ holds.1)
-holds_stay known e mech (Checking p key evidence) holds =
-    (pin_stays known e mech p holds.0, key_stays known e mech p.version p.place holds.0.past ∙ holds.1, holds.2)
-holds_stay known e mech (Proved p) holds = pin_stays known e mech p holds
-holds_stay known e mech (Authorized p) holds = pin_stays known e mech p holds
-holds_stay known e mech (Complete p) holds = pin_stays known e mech p holds
-holds_stay known e mech Failed holds = tt
+key_holds : (known : Known) (e : Edit) (mech : Mech) (nonce : List ℕ) (p : Pin) (key : Naming) → p.version ≤ length known.edits
+    → IsKey known mech nonce p key → IsKey (more known e) mech nonce p key
+key_holds known e mech nonce p key past is =
+    record { ready_is = key_stays known e mech p.version p.place past ∙ is.ready_is; first_is = is.first_is }
 
-handout_stays : (known : Known) (e : Edit) (mech : Mech) (prepared : Option Prepared) (stage : ContextStage)
-    → HoldsIts known mech stage → HasHandout known prepared stage → HasHandout (more known e) prepared stage
-handout_stays known e mech prepared Fresh holds has = tt
-handout_stays known e mech prepared (Loading p) holds has = tt
-handout_stays known e mech prepared (Named p key) holds has = tt
-handout_stays known e mech prepared (Checking p key evidence) holds has = tt
-handout_stays known e mech prepared (Proved p) holds has = tt
-handout_stays known e mech prepared (Authorized p) holds has =
+holds_stay : (known : Known) (e : Edit) (mech : Mech) (nonce : List ℕ) (stage : ContextStage)
+    → HoldsIts known mech nonce stage → HoldsIts (more known e) mech nonce stage
+holds_stay known e mech nonce Fresh holds = tt
+holds_stay known e mech nonce (Loading p) holds = pin_stays known e mech p holds
+holds_stay known e mech nonce (Named p key) holds =
+    (pin_stays known e mech p holds.0, key_holds known e mech nonce p key holds.0.past holds.1)
+holds_stay known e mech nonce (Checking p key evidence) holds =
+    (pin_stays known e mech p holds.0, key_holds known e mech nonce p key holds.0.past holds.1, holds.2)
+holds_stay known e mech nonce (Proved p) holds = pin_stays known e mech p holds
+holds_stay known e mech nonce (Authorized p) holds = pin_stays known e mech p holds
+holds_stay known e mech nonce (Complete p) holds = pin_stays known e mech p holds
+holds_stay known e mech nonce Failed holds = tt
+
+handout_stays : (known : Known) (e : Edit) (mech : Mech) (nonce : List ℕ) (prepared : Option Prepared) (stage : ContextStage)
+    → HoldsIts known mech nonce stage → HasHandout known prepared stage → HasHandout (more known e) prepared stage
+handout_stays known e mech nonce prepared Fresh holds has = tt
+handout_stays known e mech nonce prepared (Loading p) holds has = tt
+handout_stays known e mech nonce prepared (Named p key) holds has = tt
+handout_stays known e mech nonce prepared (Checking p key evidence) holds has = tt
+handout_stays known e mech nonce prepared (Proved p) holds has = tt
+handout_stays known e mech nonce prepared (Authorized p) holds has =
     has ∙ ap (λ found. Some (let r : Prepared = record { version = p.version; place = p.place; roles = found } in r))
     (sym (roles_stay known e p.version p.place holds.past))
-handout_stays known e mech prepared (Complete p) holds has = tt
-handout_stays known e mech prepared Failed holds has = tt
+handout_stays known e mech nonce prepared (Complete p) holds has = tt
+handout_stays known e mech nonce prepared Failed holds has = tt
 
 -- logins stay sound
 pub sound_stays : (known : Known) (e : Edit) (logins : List (ℕ × ContextLogin)) (prepared : List (ℕ × Prepared))
     → IsSound known logins prepared → IsSound (more known e) logins prepared
 sound_stays known e logins prepared sound c login found =
     let was = sound c login found in
-    (holds_stay known e login.mech login.stage was.0, handout_stays known e login.mech _ login.stage was.0 was.1)
+    (holds_stay known e login.mech login.nonce login.stage was.0, handout_stays known e login.mech login.nonce _ login.stage was.0 was.1)

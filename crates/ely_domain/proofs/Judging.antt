@@ -1,24 +1,57 @@
 -- What each mechanism answers, as far as the laws of histories look into it: a verdict is accepted exactly where the evidence
 -- proves the key, and a login is told of its key by an accepted answer. A later mechanism adds its cases here.
-use Rattle.std.proofs.Common.{◌≡◌, Bool, true, false, cond, Option, None, refl}
+use Rattle.std.proofs.Common.{◌≡◌, ℕ, Bool, true, false, List, Option, Some, None, refl, ◌∙◌}
+use Rattle.std.specs.Option.{option_and_then}
+use Rattle.ely_hash.specs.Hashes.{Hash}
+use Rattle.ely_hash.specs.declared.derive.ScramKeys.{ScramKeys}
+use Rattle.ely_scram_msg.specs.declared.last.ClientLast.{ClientLast}
+use Rattle.ely_scram.specs.declared.judgement.Judged.{Judged}
+use Rattle.ely_scram.specs.declared.judgement.Judged.TheVariants as judged
+use Rattle.ely_scram.specs.Judgement.{judgement_of, is_proved}
+use Rattle.ely_scram.proofs.JudgementLemmas.{is_proved-judgement_of}
+use Rattle.ely_job.specs.Jobs.{judged_by, password_verdict, scram_verdict}
 use Rattle.ely_cred.specs.Keys.{Ready}
+use Rattle.ely_script.specs.declared.claim.Claim.{Claim}
+use Rattle.ely_script.specs.declared.claim.Claim.TheVariants as claims
 use Rattle.ely_script.specs.declared.claim.Evidence.{Evidence}
 use Rattle.ely_script.specs.declared.claim.Evidence.TheVariants as evidences
-use Rattle.ely_script.specs.declared.outcome.Outcome.{Outcome}
-use Rattle.ely_script.specs.declared.outcome.Outcome.TheVariants as outcomes
 use Rattle.ely_script.specs.Outcomes.{is_accepted}
-use Rattle.ely_domain.specs.Identities.{Known}
+use Rattle.ely_domain.specs.Identities.{Known, key_at}
 use Rattle.ely_domain.specs.Logins.{Pinned, KnownLogin}
-use Rattle.ely_domain.specs.Steps.{told_of_key}
-use Rattle.ely_domain.specs.Verdicts.{Exchange, is_proof_of, verdict}
+use Rattle.ely_domain.specs.Steps.{announced, told_of_key}
+use Rattle.ely_domain.specs.Verdicts.{Exchange, exchange, server_first, proves_message, is_proof_of, verdict_told, message_told, verdict}
+
+-- the answer to a judgement is accepted where it is no fault
+told_accepts : (judgement : Judged) → is_accepted (verdict_told (scram_verdict judgement)) ≡ is_proved judgement
+told_accepts (judged.Proved verifier) = refl
+told_accepts judged.BadBinding = refl
+told_accepts judged.BadNonce = refl
+told_accepts judged.BadProof = refl
+
+message_accepts : (by : Option (Hash × ScramKeys)) (claim : Claim) (nonce : List ℕ) (text : Option (List ℕ)) (last : ClientLast)
+    → is_accepted (message_told by claim nonce text last) ≡ proves_message by claim nonce text last
+message_accepts (Some by) (claims.Scram first) nonce (Some text) last =
+    told_accepts (judgement_of by.0 by.1 first nonce text last) ∙ is_proved-judgement_of by.0 by.1 first nonce text last
+message_accepts (Some by) (claims.Scram first) nonce None last = refl
+message_accepts (Some by) (claims.Plain authzid name) nonce text last = refl
+message_accepts None claim nonce text last = refl
 
 pub verdict_accepts : (said : Exchange) (key : Option Ready) (evidence : Evidence)
     → is_accepted (verdict said key evidence) ≡ is_proof_of said key evidence
 verdict_accepts said key (evidences.Plain password) = by (is_proof_of said key (evidences.Plain password))
   where
-    by : (b : Bool) → is_accepted (cond {A = Outcome} b (outcomes.Proved None) outcomes.Password) ≡ b
+    by : (b : Bool) → is_accepted (verdict_told (password_verdict b)) ≡ b
     by true = refl
     by false = refl
+verdict_accepts said None (evidences.Scram last) = refl
+verdict_accepts said (Some key) (evidences.Scram last) =
+    message_accepts (judged_by key.mech key.key) said.claim said.nonce (server_first said key) last
+
+-- a message is announced by an accepted answer
+announced_accepts : (text : Option (List ℕ)) → is_accepted (announced text) ≡ true
+announced_accepts None = refl
+announced_accepts (Some text) = refl
 
 pub key_accepts : (known : Known) (login : KnownLogin) (pin : Pinned) → is_accepted (told_of_key known login pin) ≡ true
-key_accepts known login pin = refl
+key_accepts known login pin =
+    announced_accepts (option_and_then (server_first (exchange known.given login.nonce pin.claim)) (key_at known login.mech pin.version pin.place))

@@ -1,5 +1,5 @@
 -- What is known of a key that a place has.
-use Rattle.std.proofs.Common.{◌≡◌, ℕ, List, Option, Some, None, true, Bool, refl, ap, sym}
+use Rattle.std.proofs.Common.{◌≡◌, ℕ, List, Option, Some, None, refl, ap}
 use Rattle.std.specs.Prelude.{IfSome}
 use Rattle.std.specs.Option.{option_map, option_and_then}
 use Rattle.ely_row.specs.declared.cred.Credential.{Credential}

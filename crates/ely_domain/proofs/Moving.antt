@@ -1,22 +1,20 @@
 -- A step of one login, as a step among all of them.
-use Rattle.std.proofs.Common.{◌≡◌, ℕ, Bool, true, false, cond, eqb, List, [], ◌∷◌, Option, Some, None, Ok, Err, Result, refl, sym, ap, subst, ◌∙◌, eqb-true}
+use Rattle.std.proofs.Common.{◌≡◌, ℕ, Bool, true, false, cond, eqb, List, [], Some, None, Ok, Err, Result, refl, sym, ap, subst, ◌∙◌, eqb-true}
 use Rattle.std.specs.Prelude.{◌==◌, OnErr, IfOk}
 use Rattle.std.specs.Option.{option_map}
 use Rattle.std.proofs.lemmas.Option.{same_Some}
 use Rattle.ely_script.specs.declared.outcome.Outcome.{Outcome}
 use Rattle.ely_script.specs.declared.outcome.Outcome.TheVariants as outcomes
 use Rattle.ely_context.specs.Contexts.{ContextLogin}
-use Rattle.ely_context.specs.Stages.{at_stage, state_of}
 use Rattle.ely_context.specs.Logins.{login_of, with_login, without_login, each_login, AreRising}
-use Rattle.ely_context.proofs.LoginLemmas.{login_of-each_login, login_of-with_login, login_of-without_login, with_login-each_login, without_login-each_login, with_login-same}
+use Rattle.ely_context.proofs.LoginLemmas.{login_of-each_login, login_of-with_login, login_of-without_login, with_login-each_login, with_login-same}
 use Rattle.ely_context.proofs.StageLemmas.{state-view}
 use Rattle.ely_domain.specs.declared.event.Event.{Event}
 use Rattle.ely_domain.specs.declared.prepared.Prepared.{Prepared}
 use Rattle.ely_domain.specs.Contexts.{pinned, seen_login, seen_live, IsSound, IsSoundAt, IsReply, Answers, AnswersBy}
 use Rattle.ely_domain.specs.Costs.{cost_for, login_cost, RoseBy}
 use Rattle.ely_domain.specs.Identities.{Known}
-use Rattle.ely_domain.specs.Logins.{KnownLogin, Live}
-use Rattle.ely_domain.specs.Machine.{Answered, answered, answered_for, carried_out, put_login}
+use Rattle.ely_domain.specs.Machine.{Answered, answered, answered_for, carried_out}
 use Rattle.ely_domain.specs.Steps.{Reply, NotDue, Stays, Moves, reply, carried, is_carried, not_due, not_there}
 
 module _ (known : Known) (logins : List (ℕ × ContextLogin)) (event : Event) (id : ℕ) where

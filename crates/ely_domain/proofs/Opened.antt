@@ -23,6 +23,8 @@ four_parts (Ok command) = by_verb command.verb
   where
     by_verb : (verb : Verb) → length (parts_by verb) ≤ 4
     by_verb (verbs.Plain c message) = lit≤ tt
+    by_verb (verbs.First c message) = lit≤ tt
+    by_verb (verbs.Last c message) = lit≤ tt
     by_verb (verbs.Change edit) = lit≤ tt
     by_verb (verbs.Begin c mech brought) = lit≤ tt
     by_verb (verbs.Authorize c) = lit≤ tt
@@ -65,6 +67,8 @@ lone_or_quiet (Ok command) = by_verb command.verb
   where
     by_verb : (verb : Verb) → (length (parts_by verb) ≤ 1) ⊎ (quiet (parts_by verb) ≡ true)
     by_verb (verbs.Plain c message) = inr refl
+    by_verb (verbs.First c message) = inr refl
+    by_verb (verbs.Last c message) = inr refl
     by_verb (verbs.Change edit) = inl (lit≤ tt)
     by_verb (verbs.Begin c mech brought) = inl (lit≤ tt)
     by_verb (verbs.Authorize c) = inl (lit≤ tt)
@@ -115,9 +119,9 @@ stays_by given m part carried event is quiet_part = by event (no_begin part carr
     by (events.Change edit) h = change_opens m edit (fault (realms given) given.limit m.edits edit)
     by (events.Begin c mech brought) h = absurd (true≢false h)
     by (events.Name1 c claim) h = refl
-    by (events.Name2 c serial) h = refl
+    by (events.Name2 c serial brought) h = refl
     by (events.Check1 c serial evidence) h = refl
-    by (events.Check2 c serial) h = refl
+    by (events.Check2 c serial brought) h = refl
     by (events.Authorize c) h = refl
     by (events.Allows c wanted) h = refl
     by (events.Succeed c) h = refl
@@ -131,9 +135,9 @@ step_opens given m (events.Begin c mech brought) = opened_or_opens m c given mec
 step_opens given m (events.Change edit) = omega (arith, change_opens m edit (fault (realms given) given.limit m.edits edit))
 step_opens given m (events.Bad bad) = omega arith
 step_opens given m (events.Name1 d claim) = omega arith
-step_opens given m (events.Name2 d serial) = omega arith
+step_opens given m (events.Name2 d serial brought) = omega arith
 step_opens given m (events.Check1 d serial evidence) = omega arith
-step_opens given m (events.Check2 d serial) = omega arith
+step_opens given m (events.Check2 d serial brought) = omega arith
 step_opens given m (events.Authorize d) = omega arith
 step_opens given m (events.Allows d wanted) = omega arith
 step_opens given m (events.Succeed d) = omega arith

@@ -1,5 +1,5 @@
 -- Logins that are opened, and that are closed.
-use Rattle.std.proofs.Common.{◌≡◌, ℕ, ◌+◌, ◌<◌, ◌≤◌, Bool, true, false, cond, leb, List, length, map, Option, Some, None, refl, sym, ap, ◌∙◌, arith}
+use Rattle.std.proofs.Common.{◌≡◌, ℕ, ◌+◌, ◌<◌, ◌≤◌, Bool, true, false, cond, leb, List, length, Option, Some, None, refl, sym, ap, ◌∙◌, arith}
 use Rattle.std.proofs.lemmas.Bool.Decides.{nat_tests}
 use Rattle.std.proofs.lemmas.List.{length-map}
 use Rattle.std.specs.Prelude.{is_some}
@@ -16,7 +16,7 @@ use Rattle.ely_context.proofs.LoginLemmas.{login_of-each_login, with_login-each_
 use Rattle.ely_domain.specs.Contexts.{seen_login, seen_live}
 use Rattle.ely_domain.specs.Given.{Given, nonce_of}
 use Rattle.ely_domain.specs.Logins.{KnownLogin}
-use Rattle.ely_domain.specs.Machine.{Machine, Stepped, Answered, begin, opened_or, opened_login, opening_fault, closed, with_answered}
+use Rattle.ely_domain.specs.Machine.{Machine, Stepped, begin, opening_fault, closed, with_answered}
 
 -- whether something is there is the same of what is seen of it
 pub is_some-map : {A B : Type 0} (f : A → B) (o : Option A) → is_some (option_map f o) ≡ is_some o

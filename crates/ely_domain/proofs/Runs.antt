@@ -1,10 +1,10 @@
 -- Runs of the machine: what is tracked through a step is tracked through all of them.
-use Rattle.std.proofs.Common.{◌≡◌, ℕ, ◌+◌, ◌≤◌, Bool, true, false, cond, eqb, leb, List, [], ◌∷◌, ◌++◌, length, fold, Option, Some, None, refl, sym, ap, subst, ◌∙◌, arith, append-nil, append_assoc, eqb-true, eq-eqb}
+use Rattle.std.proofs.Common.{◌≡◌, ℕ, ◌+◌, ◌≤◌, Bool, true, false, cond, eqb, leb, List, [], ◌∷◌, ◌++◌, length, fold, Option, Some, None, refl, sym, ap, ◌∙◌, arith, append-nil, append_assoc, eqb-true, eq-eqb}
 use Rattle.std.specs.Prelude.{is_some, ◌==◌}
 use Rattle.std.specs.List.{cons_option, filter_map}
 use Rattle.std.specs.Cmp.{nat_eq_equiv}
 use Rattle.std.specs.Option.{option_or}
-use Rattle.std.proofs.lemmas.List.{take-append-le, length-append}
+use Rattle.std.proofs.lemmas.List.{length-append}
 use Rattle.ely_row.specs.declared.edit.Edit.{Edit}
 use Rattle.ely_row.specs.declared.edit.EditFault.{EditFault}
 use Rattle.ely_row.specs.declared.mech.Mech.{Mech}
@@ -20,22 +20,22 @@ use Rattle.ely_script.specs.Outcomes.{is_accepted}
 use Rattle.ely_context.specs.declared.stage.Stage.TheVariants.{Fresh, Loading, Named, Checking, Proved, Authorized, Complete, Failed}
 use Rattle.ely_context.specs.Logins.{login_of, with_login, without_login}
 use Rattle.ely_context.specs.Stages.{state_of, at_stage}
-use Rattle.ely_context.proofs.LoginLemmas.{login_of-with_login, login_of-without_login}
+use Rattle.ely_context.proofs.LoginLemmas.{login_of-without_login}
 use Rattle.ely_domain.specs.declared.event.Event.{Event}
 use Rattle.ely_domain.specs.declared.event.Event.TheVariants as events
-use Rattle.ely_domain.specs.Events.{word_of, login_id, is_id, is_on}
-use Rattle.ely_domain.specs.Given.{Given, realms, start}
-use Rattle.ely_domain.specs.Histories.{IsRun, machine_after, accepted_word, words_on, since_open, is_end}
-use Rattle.ely_domain.specs.Identities.{Known, key_at, grants, to_log_in}
+use Rattle.ely_domain.specs.Events.{login_id, is_id, is_on}
+use Rattle.ely_domain.specs.Given.{Given, realms}
+use Rattle.ely_domain.specs.Histories.{IsRun, machine_after, accepted_word, words_on, since_open}
+use Rattle.ely_domain.specs.Identities.{Known, grants, to_log_in}
 use Rattle.ely_domain.specs.Lines.{Taken}
 use Rattle.ely_domain.specs.Logins.{Pinned, KnownStage, KnownLogin, Live}
-use Rattle.ely_domain.specs.Machine.{Machine, Answered, Stepped, known, answered, answered_for, carried_out, with_answered, change, opening_fault, opened_or, opened_login, closed, first_machine, step}
+use Rattle.ely_domain.specs.Machine.{Machine, Answered, known, answered, answered_for, carried_out, change, opening_fault, opened_or, opened_login, closed, first_machine, step}
 use Rattle.ely_domain.specs.Steps.{Reply, NotDue, Stays, Moves, reply, carried, is_carried, not_due, not_there}
 use Rattle.ely_domain.specs.Verdicts.{exchange, is_proof_of}
-use Rattle.ely_domain.specs.WhoGetsIn.{Said, Opening, said_of, last_on, opened_by, pinned_by, evidence_shown, edit_made, edits_of, known_by, has_shown, is_shown, is_granted}
+use Rattle.ely_domain.specs.WhoGetsIn.{Said, Opening, opened_by, pinned_by, evidence_shown, edit_made, known_by, has_shown, is_shown, is_granted}
 use Rattle.ely_domain.proofs.Growing.{more, key_stays}
 use Rattle.ely_domain.proofs.Seeing.{itself_with, others_with, others_without}
-use Rattle.ely_domain.proofs.Tracking.{Fits, FitsStage, HoldsSaid, opening_of, IsSaid, IsPinSaid, IsTracked, Tracks, said_next, word_if, tracks, refused_pins_nothing}
+use Rattle.ely_domain.proofs.Tracking.{HoldsSaid, opening_of, IsSaid, IsPinSaid, IsTracked, Tracks, said_next, word_if, tracks, refused_pins_nothing}
 use Rattle.ely_domain.proofs.WordLists.{next, ended, since_open_push}
 
 -- what is said of c after a step, whose login it is or not
@@ -80,8 +80,8 @@ untracked k found rest said event outcome refused tracked =
     rw (refused, said_refused k.given said event outcome refused) tracked
 
 not_due_refuses : (event : Event) (state : StateWord) → is_accepted (not_due event state) ≡ false
-not_due_refuses (events.Name2 c n) state = refl
-not_due_refuses (events.Check2 c n) state = refl
+not_due_refuses (events.Name2 c n brought) state = refl
+not_due_refuses (events.Check2 c n brought) state = refl
 not_due_refuses (events.Bad bad) state = refl
 not_due_refuses (events.Change edit) state = refl
 not_due_refuses (events.Begin c mech brought) state = refl
@@ -277,9 +277,9 @@ module _ (given : Given) (m : Machine) (c : ℕ) (rest : Option (List StepWord))
   step_tracked (events.Change edit) = step_change edit (fault (realms given) given.limit m.edits edit)
   step_tracked (events.Begin d mech brought) = step_begin d mech brought (opening_fault m.live d) refl
   step_tracked (events.Name1 d claim) = step_login (events.Name1 d claim) d refl
-  step_tracked (events.Name2 d n) = step_login (events.Name2 d n) d refl
+  step_tracked (events.Name2 d n brought) = step_login (events.Name2 d n brought) d refl
   step_tracked (events.Check1 d n evidence) = step_login (events.Check1 d n evidence) d refl
-  step_tracked (events.Check2 d n) = step_login (events.Check2 d n) d refl
+  step_tracked (events.Check2 d n brought) = step_login (events.Check2 d n brought) d refl
   step_tracked (events.Authorize d) = step_login (events.Authorize d) d refl
   step_tracked (events.Allows d wanted) = step_login (events.Allows d wanted) d refl
   step_tracked (events.Succeed d) = step_login (events.Succeed d) d refl
@@ -339,9 +339,9 @@ edits_step given m (events.Begin d mech brought) = by (opening_fault m.live d)
     by (Some f) = sym (append-nil m.edits)
 edits_step given m (events.Bad bad) = sym (append-nil m.edits)
 edits_step given m (events.Name1 d claim) = sym (append-nil m.edits)
-edits_step given m (events.Name2 d n) = sym (append-nil m.edits)
+edits_step given m (events.Name2 d n brought) = sym (append-nil m.edits)
 edits_step given m (events.Check1 d n evidence) = sym (append-nil m.edits)
-edits_step given m (events.Check2 d n) = sym (append-nil m.edits)
+edits_step given m (events.Check2 d n brought) = sym (append-nil m.edits)
 edits_step given m (events.Authorize d) = sym (append-nil m.edits)
 edits_step given m (events.Allows d wanted) = sym (append-nil m.edits)
 edits_step given m (events.Succeed d) = sym (append-nil m.edits)

@@ -1,10 +1,9 @@
 -- Logins as the machine knows them, found and changed.
-use Rattle.std.proofs.Common.{◌≡◌, ℕ, Bool, true, false, cond, List, Option, Some, None, refl, sym, ap, ◌∙◌, eq-eqb}
-use Rattle.std.specs.Prelude.{◌==◌, if◌then◌else◌}
+use Rattle.std.proofs.Common.{◌≡◌, ℕ, false, cond, List, Option, Some, None, refl, sym, ap, ◌∙◌, eq-eqb}
+use Rattle.std.specs.Prelude.{◌==◌}
 use Rattle.std.specs.Option.{option_map}
 use Rattle.ely_context.specs.Contexts.{ContextLogin}
-use Rattle.ely_context.specs.Stages.{state_of}
-use Rattle.ely_context.specs.Logins.{login_of, with_login, without_login, each_login, state_or_absent, state_at}
+use Rattle.ely_context.specs.Logins.{login_of, with_login, without_login, state_or_absent, state_at}
 use Rattle.ely_context.proofs.LoginLemmas.{login_of-each_login, login_of-with_login, login_of-without_login}
 use Rattle.ely_context.proofs.StageLemmas.{state-view}
 use Rattle.ely_domain.specs.Contexts.{pinned, seen_login, seen_live}

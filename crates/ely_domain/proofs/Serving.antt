@@ -1,8 +1,9 @@
 -- Each part of a line has its event when it is due: what carries a serial stands behind the step that gives it.
-use Rattle.std.proofs.Common.{◌≡◌, ℕ, Bool, true, false, cond, List, [], ◌∷◌, Option, Some, None, Result, Ok, Err, refl, sym, ap, subst, ◌∙◌}
-use Rattle.std.specs.Option.{option_map, option_or}
+use Rattle.std.proofs.Common.{◌≡◌, ℕ, Bool, true, false, cond, List, [], ◌∷◌, Option, Some, None, Result, Ok, Err, refl, sym, subst, ◌∙◌}
+use Rattle.std.specs.Option.{option_or}
 use Rattle.ely_script.specs.declared.claim.Claim.{Claim}
 use Rattle.ely_script.specs.declared.claim.Claim.TheVariants as claims
+use Rattle.ely_script.specs.declared.claim.Evidence.{Evidence}
 use Rattle.ely_script.specs.declared.claim.Evidence.TheVariants as evidences
 use Rattle.ely_script.specs.declared.command.LineError.TheVariants as errors
 use Rattle.ely_script.specs.declared.command.Verb.{Verb}
@@ -19,9 +20,10 @@ use Rattle.ely_domain.specs.Given.{Given}
 use Rattle.ely_domain.specs.Identities.{Known}
 use Rattle.ely_domain.specs.Lines.{serial_given, carrier, carried_after}
 use Rattle.ely_domain.specs.Logins.{Pinned, KnownStage, KnownLogin, Live}
-use Rattle.ely_domain.specs.Machine.{Machine, Stepped, Answered, known, answered, answered_for, carried_out, step}
+use Rattle.ely_domain.specs.Machine.{Machine, Answered, known, answered, answered_for, carried_out, step}
 use Rattle.ely_domain.specs.Parts.{Part, Bad, Change, Begin, Name1, Name2, Check1, Check2, Authorize, Allows, Succeed, Fail, Close, parts_by, parts_of, event_of}
-use Rattle.ely_domain.specs.Steps.{naming, name1, pinned_or}
+use Rattle.ely_context.specs.ContextTable as table
+use Rattle.ely_domain.specs.Steps.{Reply, Stays, moves, is_evidence_of, naming, name1, pinned_or, check1}
 use Rattle.ely_domain.proofs.Seeing.{itself_with}
 use Rattle.ely_domain.proofs.Tracking.{naming_refuses}
 
@@ -96,6 +98,35 @@ name1_gives k live c claim = by_found (login_of live.logins c)
     by_found None accepted = cc
     by_found (Some login) accepted = by_stage login login.stage accepted
 
+-- and so does an accepted check1 of a line without one
+check1_gives : (k : Known) (live : Live) (c : ℕ) (evidence : Evidence)
+    → (let a = answered k live (events.Check1 c None evidence) c in is_accepted a.outcome ≡ true → (n : ℕ) × (serial_given (Some c) a.outcome a.live ≡ Some n))
+unfolding answered
+check1_gives k live c evidence = by_found (login_of live.logins c)
+  where
+    by_test : (login : KnownLogin) (p : Pinned) (key : Unit {0}) (b : Bool)
+        → (let a = carried_out live (events.Check1 c None evidence) c login
+        (cond {A = Reply} b (moves outcomes.Fine (table.check1 evidence (Named p key))) (Stays (outcomes.Mechanism login.mech))) in
+        is_accepted a.outcome ≡ true → (n : ℕ) × (serial_given (Some c) a.outcome a.live ≡ Some n))
+    by_test login p key true accepted = (login.serial, rw (itself_with live.logins c _) refl)
+    by_test login p key false accepted = cc
+
+    by_stage : (login : KnownLogin) (stage : KnownStage)
+        → (let a = carried_out live (events.Check1 c None evidence) c login (check1 login evidence stage) in is_accepted a.outcome ≡ true → (n : ℕ) × (serial_given (Some c) a.outcome a.live ≡ Some n))
+    by_stage login (Named p key) accepted = by_test login p key (is_evidence_of login.mech evidence) accepted
+    by_stage login Fresh accepted = cc
+    by_stage login (Loading p) accepted = cc
+    by_stage login (Checking p key e) accepted = cc
+    by_stage login (Proved p) accepted = cc
+    by_stage login (Authorized p) accepted = cc
+    by_stage login (Complete p) accepted = cc
+    by_stage login Failed accepted = cc
+
+    by_found : (o : Option KnownLogin)
+        → (let a = answered_for k live (events.Check1 c None evidence) c o in is_accepted a.outcome ≡ true → (n : ℕ) × (serial_given (Some c) a.outcome a.live ≡ Some n))
+    by_found None accepted = cc
+    by_found (Some login) accepted = by_stage login login.stage accepted
+
 -- the first part of a line needs no serial, and gives one to those behind it
 pub serves_line : (given : Given) (line : ScriptLine) → Serves given None (parts_of line)
 unfolding step
@@ -112,6 +143,20 @@ serves_line given (Ok command) = by_verb command.verb
           let gives = name1_gives (known given m) m.live c (claims.Plain message.authzid message.name) accepted in
           subst (λ o. Serves given (option_or o None) (Name2 c ∷ Check1 c (evidences.Plain message.password) ∷ Check2 c ∷ [])) (sym gives.1)
           (serves_with given gives.0 (Name2 c ∷ Check1 c (evidences.Plain message.password) ∷ Check2 c ∷ [])),
+    )
+    by_verb (verbs.First c message) = (
+      _,
+      refl,
+      λ m accepted.
+          let gives = name1_gives (known given m) m.live c (claims.Scram message) accepted in
+          subst (λ o. Serves given (option_or o None) (Name2 c ∷ [])) (sym gives.1) (serves_with given gives.0 (Name2 c ∷ [])),
+    )
+    by_verb (verbs.Last c message) = (
+      _,
+      refl,
+      λ m accepted.
+          let gives = check1_gives (known given m) m.live c (evidences.Scram message) accepted in
+          subst (λ o. Serves given (option_or o None) (Check2 c ∷ [])) (sym gives.1) (serves_with given gives.0 (Check2 c ∷ [])),
     )
     by_verb (verbs.Authorize c) = (_, refl, λ m accepted. tt)
     by_verb (verbs.Succeed c) = (_, refl, λ m accepted. tt)

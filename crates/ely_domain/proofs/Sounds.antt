@@ -6,19 +6,22 @@ use Rattle.ely_row.specs.declared.mech.Mech.{Mech}
 use Rattle.ely_cred.specs.Keys.{Ready, ready_of}
 use Rattle.ely_script.specs.declared.claim.Claim.{Claim}
 use Rattle.ely_script.specs.declared.claim.Evidence.{Evidence}
+use Rattle.ely_script.specs.Outcomes.{is_accepted}
 use Rattle.ely_script.specs.declared.outcome.Outcome.{Outcome}
 use Rattle.ely_script.specs.declared.outcome.Outcome.TheVariants as outcomes
 use Rattle.ely_context.specs.declared.naming.Naming.{Naming}
 use Rattle.ely_context.specs.declared.pin.Pin.{Pin}
 use Rattle.ely_context.specs.declared.stage.Stage.TheVariants.{Fresh, Loading, Named, Checking, Proved, Authorized, Complete, Failed}
-use Rattle.ely_context.specs.Contexts.{ContextStage, ContextLogin, naming, judged_parts}
+use Rattle.ely_context.specs.declared.naming.Naming.{Naming}
+use Rattle.ely_context.specs.Contexts.{ContextStage, ContextLogin, naming}
 use Rattle.ely_context.specs.ContextTable as table
-use Rattle.ely_context.specs.Stages.{loading_pin, at_stage}
+use Rattle.ely_context.specs.Stages.{loading_pin, proved_pin, checked_parts, at_stage}
 use Rattle.ely_domain.specs.declared.naming.Found.{Found}
 use Rattle.ely_domain.specs.declared.prepared.Prepared.{Prepared}
-use Rattle.ely_domain.specs.Contexts.{IsPin, HoldsIts, HasHandout, IsSoundAt, StaysSound, IsReply, Finds, Asks, seen_login}
-use Rattle.ely_domain.specs.Identities.{Known}
-use Rattle.ely_domain.specs.Steps.{is_evidence_of, authorize}
+use Rattle.ely_domain.specs.Contexts.{IsPin, HoldsIts, IsSoundAt, StaysSound, IsReply, Finds, Asks, pinned, seen_login}
+use Rattle.ely_domain.specs.Identities.{Known, key_at}
+use Rattle.ely_domain.specs.Steps.{is_evidence_of, announced, name2, check2, authorize}
+use Rattle.ely_domain.specs.Verdicts.{exchange, server_first, verdict}
 use Rattle.ely_domain.proofs.Keys.{key_of_row, key_mech}
 
 -- a login at a stage that holds what it should, without one to hand out
@@ -42,24 +45,58 @@ module _ (known : Known) (serial : ℕ) (mech : Mech) (nonce : List ℕ) where
   login stage = record { serial = serial; mech = mech; nonce = nonce; stage = stage }
 
   -- a naming's key is that of its pin
-  pub named_sound : (stage : ContextStage) (new : ContextLogin) (p : Pin) (ready : Ready) (server_first : Option (List ℕ))
+  pub named_sound : (stage : ContextStage) (new : ContextLogin) (p : Pin) (ready : Ready) (text : Option (List ℕ))
       → loading_pin stage ≡ Some p
       → Some ready ≡ ready_of known.given.config.params p.place.realm p.place.name mech p.row
-      → table.after (login stage) (table.name2 (naming ready server_first)) ≡ Some new
+      → text ≡ server_first (exchange known.given nonce p.claim) ready
+      → table.after (login stage) (table.name2 (naming ready text)) ≡ Some new
       → StaysSound known (login stage) new
-  named_sound (Loading q) new p ready server_first pin ready_is moved =
-      moved_sound known (login (Loading q)) new (Named q (naming ready server_first)) moved
+  named_sound (Loading q) new p ready text pin ready_is text_is moved =
+      moved_sound known (login (Loading q)) new (Named q (naming ready text)) moved
       (λ prepared was.
       let held : IsPin known mech q = was.0 in
       let same : q ≡ p = same_Some _ _ pin in
-      ((held, key_of_row known mech q.version q.place q.row held.row_is ∙ sym (rw (← same) at ready_is)), tt))
-  named_sound Fresh new p ready server_first pin ready_is moved = cc
-  named_sound (Named q key) new p ready server_first pin ready_is moved = cc
-  named_sound (Checking q key evidence) new p ready server_first pin ready_is moved = cc
-  named_sound (Proved q) new p ready server_first pin ready_is moved = cc
-  named_sound (Authorized q) new p ready server_first pin ready_is moved = cc
-  named_sound (Complete q) new p ready server_first pin ready_is moved = cc
-  named_sound Failed new p ready server_first pin ready_is moved = cc
+      ((held, record { ready_is = key_of_row known mech q.version q.place q.row held.row_is ∙ sym (rw (← same) at ready_is); first_is = rw (← same) at text_is }), tt))
+  named_sound Fresh new p ready text pin ready_is text_is moved = cc
+  named_sound (Named q key) new p ready text pin ready_is text_is moved = cc
+  named_sound (Checking q key evidence) new p ready text pin ready_is text_is moved = cc
+  named_sound (Proved q) new p ready text pin ready_is text_is moved = cc
+  named_sound (Authorized q) new p ready text pin ready_is text_is moved = cc
+  named_sound (Complete q) new p ready text pin ready_is text_is moved = cc
+  named_sound Failed new p ready text pin ready_is text_is moved = cc
+
+  -- what is shown is of the login's mechanism
+  pub shown_sound : (stage : ContextStage) (new : ContextLogin) (evidence : Evidence) → is_evidence_of mech evidence ≡ true
+      → table.after (login stage) (table.check1 evidence) ≡ Some new → StaysSound known (login stage) new
+  shown_sound (Named q key) new evidence form moved =
+      moved_sound known (login (Named q key)) new (Checking q key evidence) moved (λ prepared was. ((was.0.0, was.0.1, form), tt))
+  shown_sound Fresh new evidence form moved = cc
+  shown_sound (Loading q) new evidence form moved = cc
+  shown_sound (Checking q key shown) new evidence form moved = cc
+  shown_sound (Proved q) new evidence form moved = cc
+  shown_sound (Authorized q) new evidence form moved = cc
+  shown_sound (Complete q) new evidence form moved = cc
+  shown_sound Failed new evidence form moved = cc
+
+  -- and it is told by the server's first message for it
+  pub named_reply : (stage : ContextStage) (new : ContextLogin) (p : Pin) (ready : Ready) (text : Option (List ℕ)) (outcome : Outcome)
+      → loading_pin stage ≡ Some p → HoldsIts known mech nonce stage
+      → Some ready ≡ ready_of known.given.config.params p.place.realm p.place.name mech p.row
+      → text ≡ server_first (exchange known.given nonce p.claim) ready → outcome ≡ announced text
+      → table.after (login stage) (table.name2 (naming ready text)) ≡ Some new
+      → IsReply (name2 known (seen_login (login stage)) (seen_login (login stage)).stage) (λ state. outcomes.Gone) (login stage) outcome new
+  named_reply (Loading q) new p ready text outcome pin holds ready_is text_is told moved =
+      let same : q ≡ p = same_Some _ _ pin in
+      let key : key_at known mech q.version q.place ≡ Some ready =
+      key_of_row known mech q.version q.place q.row holds.row_is ∙ sym (rw (← same) at ready_is) in
+      (told ∙ ap announced (rw (← same) at text_is) ∙ rw key refl, ap seen_login (sym (same_Some _ _ moved)))
+  named_reply Fresh new p ready text outcome pin holds ready_is text_is told moved = cc
+  named_reply (Named q key) new p ready text outcome pin holds ready_is text_is told moved = cc
+  named_reply (Checking q key evidence) new p ready text outcome pin holds ready_is text_is told moved = cc
+  named_reply (Proved q) new p ready text outcome pin holds ready_is text_is told moved = cc
+  named_reply (Authorized q) new p ready text outcome pin holds ready_is text_is told moved = cc
+  named_reply (Complete q) new p ready text outcome pin holds ready_is text_is told moved = cc
+  named_reply Failed new p ready text outcome pin holds ready_is text_is told moved = cc
 
   -- a check's verdict leaves the pin
   pub checked_sound : (stage : ContextStage) (new : ContextLogin) (proved : Bool)
@@ -76,25 +113,81 @@ module _ (known : Known) (serial : ℕ) (mech : Mech) (nonce : List ℕ) where
   checked_sound (Complete q) new proved moved = cc
   checked_sound Failed new proved moved = cc
 
+  -- and it is told as the machine tells it
+  pub checked_reply : (stage : ContextStage) (new : ContextLogin) (p : Pin) (key : Naming) (evidence : Evidence) (outcome : Outcome)
+      → checked_parts stage ≡ Some (p, key, evidence) → HoldsIts known mech nonce stage
+      → outcome ≡ verdict (exchange known.given nonce p.claim) (Some key.ready) evidence
+      → table.after (login stage) (table.check2 (is_accepted outcome)) ≡ Some new
+      → IsReply (check2 known (seen_login (login stage)) (seen_login (login stage)).stage) (λ state. outcomes.Gone) (login stage) outcome new
+  checked_reply (Checking q own shown) new p key evidence outcome is holds outcome_is moved =
+      let all = same_Some _ _ is in
+      let pins : q ≡ p = ap (λ (x : Pin × Naming × Evidence). x.0) all in
+      let keys : own ≡ key = ap (λ (x : Pin × Naming × Evidence). x.1) all in
+      let shows : shown ≡ evidence = ap (λ (x : Pin × Naming × Evidence). x.2) all in
+      let judged : outcome ≡ verdict (exchange known.given nonce q.claim) (key_at known mech q.version q.place) shown =
+      rw (holds.1.ready_is, pins, keys, shows) outcome_is in
+      (judged, rw (← judged) (seen (is_accepted outcome) moved))
+    where
+      seen : (b : Bool) → at_next (login (Checking q own shown)) (Some (cond b (Proved q) Failed)) ≡ Some new
+          → seen_login new ≡ at_stage (seen_login (login (Checking q own shown))) (cond b (Proved (pinned q)) Failed)
+      seen true moved = ap seen_login (sym (same_Some _ _ moved))
+      seen false moved = ap seen_login (sym (same_Some _ _ moved))
+  checked_reply Fresh new p key evidence outcome is holds outcome_is moved = cc
+  checked_reply (Loading q) new p key evidence outcome is holds outcome_is moved = cc
+  checked_reply (Named q own) new p key evidence outcome is holds outcome_is moved = cc
+  checked_reply (Proved q) new p key evidence outcome is holds outcome_is moved = cc
+  checked_reply (Authorized q) new p key evidence outcome is holds outcome_is moved = cc
+  checked_reply (Complete q) new p key evidence outcome is holds outcome_is moved = cc
+  checked_reply Failed new p key evidence outcome is holds outcome_is moved = cc
+
   -- what is judged is of the key's mechanism
-  pub evidence_fits : (stage : ContextStage) (ready : Ready) (evidence : Evidence)
-      → HoldsIts known mech stage → judged_parts stage ≡ Some (ready, evidence) → is_evidence_of ready.mech evidence ≡ true
-  evidence_fits (Checking q key shown) ready evidence holds is =
-      let both = same_Some _ _ is in
-      let of_key : ready.mech ≡ mech = ap (λ (x : Ready × Evidence). x.0.mech) (sym both) ∙ key_mech known mech q.version q.place key.ready holds.1 in
-      let same : shown ≡ evidence = ap (λ (x : Ready × Evidence). x.1) both in
+  pub evidence_fits : (stage : ContextStage) (p : Pin) (key : Naming) (evidence : Evidence)
+      → HoldsIts known mech nonce stage → checked_parts stage ≡ Some (p, key, evidence) → is_evidence_of key.ready.mech evidence ≡ true
+  evidence_fits (Checking q own shown) p key evidence holds is =
+      let all = same_Some _ _ is in
+      let of_key : key.ready.mech ≡ mech = ap (λ (x : Pin × Naming × Evidence). x.1.ready.mech) (sym all) ∙ key_mech known mech q.version q.place own.ready holds.1.ready_is in
+      let same : shown ≡ evidence = ap (λ (x : Pin × Naming × Evidence). x.2) all in
       rw of_key (rw (← same) holds.2)
-  evidence_fits Fresh ready evidence holds is = cc
-  evidence_fits (Loading q) ready evidence holds is = cc
-  evidence_fits (Named q key) ready evidence holds is = cc
-  evidence_fits (Proved q) ready evidence holds is = cc
-  evidence_fits (Authorized q) ready evidence holds is = cc
-  evidence_fits (Complete q) ready evidence holds is = cc
-  evidence_fits Failed ready evidence holds is = cc
+  evidence_fits Fresh p key evidence holds is = cc
+  evidence_fits (Loading q) p key evidence holds is = cc
+  evidence_fits (Named q own) p key evidence holds is = cc
+  evidence_fits (Proved q) p key evidence holds is = cc
+  evidence_fits (Authorized q) p key evidence holds is = cc
+  evidence_fits (Complete q) p key evidence holds is = cc
+  evidence_fits Failed p key evidence holds is = cc
+
+  -- and the server's first message is the key's
+  pub message_fits : (stage : ContextStage) (p : Pin) (key : Naming) (evidence : Evidence)
+      → HoldsIts known mech nonce stage → checked_parts stage ≡ Some (p, key, evidence)
+      → key.server_first ≡ server_first (exchange known.given nonce p.claim) key.ready
+  message_fits (Checking q own shown) p key evidence holds is =
+      let all = same_Some _ _ is in
+      let pins : q ≡ p = ap (λ (x : Pin × Naming × Evidence). x.0) all in
+      let keys : own ≡ key = ap (λ (x : Pin × Naming × Evidence). x.1) all in
+      rw (← pins, ← keys) holds.1.first_is
+  message_fits Fresh p key evidence holds is = cc
+  message_fits (Loading q) p key evidence holds is = cc
+  message_fits (Named q own) p key evidence holds is = cc
+  message_fits (Proved q) p key evidence holds is = cc
+  message_fits (Authorized q) p key evidence holds is = cc
+  message_fits (Complete q) p key evidence holds is = cc
+  message_fits Failed p key evidence holds is = cc
 
   -- a login that stands at a stage that is known
   at_stage_known : (Q : ContextStage → Type 0) (stage there : ContextStage) → stage ≡ there → Q there → Q stage
   at_stage_known Q stage there is = subst Q (sym is)
+
+  -- a login whose pin is that of a proved one is proved
+  pub proved_holds : (stage : ContextStage) (p : Pin) → proved_pin stage ≡ Some p → HoldsIts known mech nonce stage
+      → (stage ≡ Proved p) × IsPin known mech p
+  proved_holds (Proved q) p is holds = let same = same_Some _ _ is in (ap Proved same, subst (IsPin known mech) same holds)
+  proved_holds Fresh p is holds = cc
+  proved_holds (Loading q) p is holds = cc
+  proved_holds (Named q key) p is holds = cc
+  proved_holds (Checking q key evidence) p is holds = cc
+  proved_holds (Authorized q) p is holds = cc
+  proved_holds (Complete q) p is holds = cc
+  proved_holds Failed p is holds = cc
 
   -- what an authorization answers that was refused
   pub refused_reply : (stage : ContextStage) (refusal : Outcome) → Asks known stage (Err refusal)
@@ -122,10 +215,10 @@ module _ (known : Known) (serial : ℕ) (mech : Mech) (nonce : List ℕ) where
       (λ moved. rw asked.2 (refl, ap seen_login (sym (same_Some _ _ moved))))
 
   pub authorized_sound : (stage : ContextStage) (new : ContextLogin) (prepared : Prepared) (found : Option Prepared)
-      → Asks known stage (Ok prepared) → HoldsIts known mech stage → found ≡ Some prepared
+      → Asks known stage (Ok prepared) → HoldsIts known mech nonce stage → found ≡ Some prepared
       → table.after (login stage) (table.authorize true) ≡ Some new → IsSoundAt known found new
   authorized_sound stage new prepared found asked holds there =
-      at_stage_known (λ s. HoldsIts known mech s → table.after (login s) (table.authorize true) ≡ Some new → IsSoundAt known found new)
+      at_stage_known (λ s. HoldsIts known mech nonce s → table.after (login s) (table.authorize true) ≡ Some new → IsSoundAt known found new)
       stage (Proved asked.0) asked.1
       (λ held moved. subst (IsSoundAt known found) (same_Some _ _ moved) (held, there ∙ ap Some asked.3))
       holds

@@ -1,39 +1,36 @@
 -- What a login's own steps say of it follows it through the machine: how far it has come, what it pinned, and what it showed.
-use Rattle.std.proofs.Common.{◌≡◌, ℕ, ◌+◌, ◌≤◌, Bool, true, false, not, cond, eqb, List, [], ◌∷◌, ◌++◌, length, Option, Some, None, Result, Ok, Err, refl, sym, ap, subst, ◌∙◌, arith}
+use Rattle.std.proofs.Common.{◌≡◌, ℕ, ◌≤◌, Bool, true, false, not, cond, List, [], ◌∷◌, ◌++◌, length, Option, Some, None, Result, Ok, Err, refl, sym, ap, subst, ◌∙◌, arith}
 use Rattle.std.specs.Prelude.{IsSome}
 use Rattle.std.specs.List.{list_any}
-use Rattle.std.specs.Option.{option_map, option_or, ok_or}
-use Rattle.std.proofs.lemmas.Option.{same_Some}
+use Rattle.std.specs.Option.{option_or, ok_or}
 use Rattle.std.proofs.lemmas.List.Folds.{list_any-append}
 use Rattle.ely_base.specs.Refused.{◌>>=◌, refused_as}
 use Rattle.ely_row.specs.declared.cred.Credential.{Credential}
-use Rattle.ely_row.specs.declared.edit.Edit.{Edit}
 use Rattle.ely_row.specs.declared.mech.Mech.{Mech}
 use Rattle.ely_row.specs.declared.place.PipeFault.{PipeFault}
 use Rattle.ely_row.specs.declared.place.Place.{Place}
 use Rattle.ely_row.specs.Rows.{Row}
-use Rattle.ely_cred.specs.Keys.{Ready, chosen}
+use Rattle.ely_cred.specs.Keys.{chosen}
 use Rattle.ely_script.specs.declared.claim.Claim.{Claim}
 use Rattle.ely_script.specs.declared.claim.Evidence.{Evidence}
-use Rattle.ely_script.specs.declared.claim.Evidence.TheVariants as evidences
 use Rattle.ely_script.specs.declared.outcome.Outcome.{Outcome}
 use Rattle.ely_script.specs.declared.outcome.Outcome.TheVariants as outcomes
 use Rattle.ely_script.specs.declared.word.StepWord.{StepWord}
 use Rattle.ely_script.specs.declared.word.StepWord.TheVariants as words
 use Rattle.ely_script.specs.Outcomes.{is_accepted}
-use Rattle.ely_script.specs.Words.{same_word}
 use Rattle.ely_context.specs.declared.stage.Stage.TheVariants.{Fresh, Loading, Named, Checking, Proved, Authorized, Complete, Failed}
 use Rattle.ely_context.specs.Stages.{at_stage}
+use Rattle.ely_job.specs.Dones.{Done}
 use Rattle.ely_domain.specs.declared.event.Event.{Event}
 use Rattle.ely_domain.specs.declared.event.Event.TheVariants as events
 use Rattle.ely_domain.specs.Events.{word_of}
 use Rattle.ely_domain.specs.Given.{Given, place_of}
-use Rattle.ely_domain.specs.Histories.{is_end, is_ready_since, needed}
+use Rattle.ely_domain.specs.Histories.{is_end, is_ready_since}
 use Rattle.ely_domain.specs.Identities.{Known, ident, key_at, grants, to_log_in}
 use Rattle.ely_domain.specs.Logins.{Pinned, KnownStage, KnownLogin}
 use Rattle.ely_domain.specs.Steps.{Reply, NotDue, Stays, Moves, claimed_name, is_other, is_claim_of, is_evidence_of, serving, naming, require, pinned_or, told_of_key, name1, name2, check1, check2, yes_or_no, authorize, allows, succeed, fail, reply}
 use Rattle.ely_domain.specs.Verdicts.{exchange, verdict}
-use Rattle.ely_domain.specs.WhoGetsIn.{Said, Opening, opened_by, pinned_by, place_or_none, evidence_shown, is_shown, has_shown, is_granted}
+use Rattle.ely_domain.specs.WhoGetsIn.{Said, Opening, opened_by, pinned_by, evidence_shown, has_shown, is_granted}
 use Rattle.ely_domain.proofs.Judging.{verdict_accepts, key_accepts}
 use Rattle.ely_domain.proofs.WordLists.{next, IsAt, moved_on, ended}
 
@@ -265,18 +262,18 @@ module _ (known : Known) (serial : ℕ) (mech : Mech) (nonce : List ℕ) (rest :
       → Tracks known (login stage) (Some rest) said event (Moves o stage)
   says_nothing event o accepted nothing stage fits holds = rw (accepted, nothing) (record { fits = fits; is_said = (opening_is, holds) })
 
-  track_name2 : (c n : ℕ) (stage : KnownStage) → TrackedAt stage
-      → Tracks known (login stage) (Some rest) said (events.Name2 c n) (name2 known (login stage) stage)
-  track_name2 c n (Loading p) at =
-      says_nothing (events.Name2 c n) (told_of_key known (login (Loading p)) p) (key_accepts known (login (Loading p)) p) refl (Named p tt)
+  track_name2 : (c n : ℕ) (brought : Option Done) (stage : KnownStage) → TrackedAt stage
+      → Tracks known (login stage) (Some rest) said (events.Name2 c n brought) (name2 known (login stage) stage)
+  track_name2 c n brought (Loading p) at =
+      says_nothing (events.Name2 c n brought) (told_of_key known (login (Loading p)) p) (key_accepts known (login (Loading p)) p) refl (Named p tt)
       (moved_on rest _ _ words.Name2 at.0 refl refl) (record { pin = at.1.pin; past = at.1.past })
-  track_name2 c n Fresh at = tt
-  track_name2 c n (Named p k) at = tt
-  track_name2 c n (Checking p k e) at = tt
-  track_name2 c n (Proved p) at = tt
-  track_name2 c n (Authorized p) at = tt
-  track_name2 c n (Complete p) at = tt
-  track_name2 c n Failed at = tt
+  track_name2 c n brought Fresh at = tt
+  track_name2 c n brought (Named p k) at = tt
+  track_name2 c n brought (Checking p k e) at = tt
+  track_name2 c n brought (Proved p) at = tt
+  track_name2 c n brought (Authorized p) at = tt
+  track_name2 c n brought (Complete p) at = tt
+  track_name2 c n brought Failed at = tt
 
   track_check1 : (c : ℕ) (n : Option ℕ) (evidence : Evidence) (stage : KnownStage) → TrackedAt stage
       → Tracks known (login stage) (Some rest) said (events.Check1 c n evidence) (check1 (login stage) evidence stage)
@@ -303,25 +300,25 @@ module _ (known : Known) (serial : ℕ) (mech : Mech) (nonce : List ℕ) (rest :
   shown_is p e pin evidence =
       rw (opening_is, pin.pin, evidence) (sym (verdict_accepts (exchange known.given nonce p.claim) (key_at known mech p.version p.place) e))
 
-  track_check2 : (c n : ℕ) (stage : KnownStage) → TrackedAt stage
-      → Tracks known (login stage) (Some rest) said (events.Check2 c n) (check2 known (login stage) stage)
-  track_check2 c n (Checking p k e) at =
+  track_check2 : (c n : ℕ) (brought : Option Done) (stage : KnownStage) → TrackedAt stage
+      → Tracks known (login stage) (Some rest) said (events.Check2 c n brought) (check2 known (login stage) stage)
+  track_check2 c n brought (Checking p k e) at =
       by (verdict (exchange known.given nonce p.claim) (key_at known mech p.version p.place) e) refl (is_accepted _) refl
     where
       by : (judged : Outcome) → verdict (exchange known.given nonce p.claim) (key_at known mech p.version p.place) e ≡ judged
           → (b : Bool) → is_accepted judged ≡ b
-          → Tracks known (login (Checking p k e)) (Some rest) said (events.Check2 c n) (Moves judged (cond b (Proved p) Failed))
+          → Tracks known (login (Checking p k e)) (Some rest) said (events.Check2 c n brought) (Moves judged (cond b (Proved p) Failed))
       by judged is true accepted =
-          says_nothing (events.Check2 c n) judged accepted refl (Proved p) (moved_on rest _ _ words.Check2 at.0 refl refl)
+          says_nothing (events.Check2 c n brought) judged accepted refl (Proved p) (moved_on rest _ _ words.Check2 at.0 refl refl)
           (record { pin = at.1.0.pin; past = at.1.0.past }, shown_is p e at.1.0 at.1.1 ∙ ap is_accepted is ∙ accepted)
       by judged is false refused = rw refused (record { fits = not_ready at.0; is_said = (opening_is, tt) })
-  track_check2 c n Fresh at = tt
-  track_check2 c n (Loading p) at = tt
-  track_check2 c n (Named p k) at = tt
-  track_check2 c n (Proved p) at = tt
-  track_check2 c n (Authorized p) at = tt
-  track_check2 c n (Complete p) at = tt
-  track_check2 c n Failed at = tt
+  track_check2 c n brought Fresh at = tt
+  track_check2 c n brought (Loading p) at = tt
+  track_check2 c n brought (Named p k) at = tt
+  track_check2 c n brought (Proved p) at = tt
+  track_check2 c n brought (Authorized p) at = tt
+  track_check2 c n brought (Complete p) at = tt
+  track_check2 c n brought Failed at = tt
 
   track_authorize : (c : ℕ) (stage : KnownStage) → TrackedAt stage
       → Tracks known (login stage) (Some rest) said (events.Authorize c) (authorize known stage)
@@ -392,9 +389,9 @@ tracks known login (Some rest) said event tracked = by event
   where
     by : (event : Event) → Tracks known login (Some rest) said event (reply known login event)
     by (events.Name1 c claim) = track_name1 known login.serial login.mech login.nonce rest said tracked.is_said.0 c claim login.stage (tracked.fits, tracked.is_said.1)
-    by (events.Name2 c n) = track_name2 known login.serial login.mech login.nonce rest said tracked.is_said.0 c n login.stage (tracked.fits, tracked.is_said.1)
+    by (events.Name2 c n brought) = track_name2 known login.serial login.mech login.nonce rest said tracked.is_said.0 c n brought login.stage (tracked.fits, tracked.is_said.1)
     by (events.Check1 c n evidence) = track_check1 known login.serial login.mech login.nonce rest said tracked.is_said.0 c n evidence login.stage (tracked.fits, tracked.is_said.1)
-    by (events.Check2 c n) = track_check2 known login.serial login.mech login.nonce rest said tracked.is_said.0 c n login.stage (tracked.fits, tracked.is_said.1)
+    by (events.Check2 c n brought) = track_check2 known login.serial login.mech login.nonce rest said tracked.is_said.0 c n brought login.stage (tracked.fits, tracked.is_said.1)
     by (events.Authorize c) = track_authorize known login.serial login.mech login.nonce rest said tracked.is_said.0 c login.stage (tracked.fits, tracked.is_said.1)
     by (events.Allows c wanted) = track_allows known login.serial login.mech login.nonce rest said tracked.is_said.0 c wanted login.stage (tracked.fits, tracked.is_said.1)
     by (events.Succeed c) = track_succeed known login.serial login.mech login.nonce rest said tracked.is_said.0 c login.stage (tracked.fits, tracked.is_said.1)

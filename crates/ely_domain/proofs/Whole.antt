@@ -1,5 +1,5 @@
 -- A history goes on by a line: its steps are legal, and then every line is over.
-use Rattle.std.proofs.Common.{◌≡◌, ℕ, zero, suc, ◌+◌, Bool, true, false, ◌&&◌, cond, eqb, ltb, List, [], ◌∷◌, ◌++◌, length, drop, map, Option, Some, None, Ok, Err, refl, sym, ap, subst, ◌∙◌, append_assoc, append-nil, add-one, add-zero, arith, length-drop}
+use Rattle.std.proofs.Common.{◌≡◌, ℕ, zero, suc, ◌+◌, Bool, true, false, ◌&&◌, cond, eqb, ltb, List, [], ◌∷◌, ◌++◌, length, drop, Option, Some, None, Ok, Err, refl, sym, ap, subst, ◌∙◌, add-one, add-zero, arith, length-drop}
 use Rattle.std.specs.Prelude.{slice_get, filter}
 use Rattle.std.proofs.lemmas.Bool.{eqb-true, eq-eqb}
 use Rattle.std.proofs.lemmas.Bool.Decides.{nat_tests}
@@ -16,10 +16,10 @@ use Rattle.ely_domain.specs.Given.{Given}
 use Rattle.ely_domain.specs.Histories.{machine_after}
 use Rattle.ely_domain.specs.Keeping.{Kept, word_due, stands_for, kept_after, first_kept}
 use Rattle.ely_domain.specs.Legal.{Cursor, Point, first_point, own_lines, IsNext, cursor_after, point_after, IsLegalFrom, AreOver, IsWhole}
-use Rattle.ely_domain.specs.Lines.{Taken, Ran, taken, after_first, after_event, carried_after, run_parts, ran, AreShown, kept_past}
+use Rattle.ely_domain.specs.Lines.{Taken, Ran, taken, after_first, carried_after, run_parts, ran, AreShown, kept_past}
 use Rattle.ely_domain.specs.Machine.{Machine, Stepped, first_machine, step}
 use Rattle.ely_domain.specs.Parts.{Part, actor_of, parts_by, parts_of, event_of}
-use Rattle.ely_domain.specs.Replays.{Made, Told, made_by, told_by, made_of, steps_told, kept_told, own_count}
+use Rattle.ely_domain.specs.Replays.{Told, made_by, told_by, steps_told, kept_told, own_count}
 use Rattle.ely_domain.proofs.Serving.{Serves, serves_line}
 
 -- ---- legal histories, put together and read otherwise
@@ -238,6 +238,8 @@ has_parts (Ok command) = by_verb command.verb
     by_verb (verbs.Change edit) = (_, _, refl)
     by_verb (verbs.Begin c mech brought) = (_, _, refl)
     by_verb (verbs.Plain c message) = (_, _, refl)
+    by_verb (verbs.First c message) = (_, _, refl)
+    by_verb (verbs.Last c message) = (_, _, refl)
     by_verb (verbs.Authorize c) = (_, _, refl)
     by_verb (verbs.Succeed c) = (_, _, refl)
     by_verb (verbs.Fail c) = (_, _, refl)

@@ -16,10 +16,10 @@ use Rattle.ely_context.specs.Stages.{state_of, proved_pin, login_view, at_stage}
 use Rattle.ely_context.specs.Logins.{login_of, each_login}
 use Rattle.ely_domain.specs.declared.naming.Found.{Found}
 use Rattle.ely_domain.specs.declared.prepared.Prepared.{Prepared}
-use Rattle.ely_domain.specs.Given.{Given}
 use Rattle.ely_domain.specs.Identities.{Known, ident, key_at, roles, grants, to_log_in}
-use Rattle.ely_domain.specs.Logins.{Pinned, KnownStage, KnownLogin, Live}
+use Rattle.ely_domain.specs.Logins.{Pinned, KnownLogin, Live}
 use Rattle.ely_domain.specs.declared.event.Event.{Event}
+use Rattle.ely_domain.specs.Verdicts.{exchange, server_first}
 use Rattle.ely_domain.specs.Steps.{Reply, NotDue, Stays, Moves, naming, is_claim_of, is_evidence_of, reply, carried, is_carried, not_due}
 
 -- what the machine knows of a pin: the row is left out, since it follows from the place and the version
@@ -49,21 +49,22 @@ pub record IsPin (known : Known) (mech : Mech) (p : Pin) : Type 0 where
   pub serves : IsSome (chosen mech p.row)
   pub form : is_claim_of mech p.claim ≡ true
 
--- a key is that of what was pinned
-abbrev pub IsKey : Known → Mech → Pin → Naming → Type 0
-IsKey known mech p key = key_at known mech p.version p.place ≡ Some key.ready
+-- a key is that of what was pinned, with the server's first message for it
+pub record IsKey (known : Known) (mech : Mech) (nonce : List ℕ) (p : Pin) (key : Naming) : Type 0 where
+  pub ready_is : key_at known mech p.version p.place ≡ Some key.ready
+  pub first_is : key.server_first ≡ server_first (exchange known.given nonce p.claim) key.ready
 
--- what a login holds at its stage follows from its pin
-abbrev pub HoldsIts : Known → Mech → ContextStage → Type 0
-HoldsIts known mech Fresh = Unit {0}
-HoldsIts known mech (Loading p) = IsPin known mech p
-HoldsIts known mech (Named p key) = IsPin known mech p × IsKey known mech p key
-HoldsIts known mech (Checking p key evidence) =
-    IsPin known mech p × IsKey known mech p key × (is_evidence_of mech evidence ≡ true)
-HoldsIts known mech (Proved p) = IsPin known mech p
-HoldsIts known mech (Authorized p) = IsPin known mech p
-HoldsIts known mech (Complete p) = IsPin known mech p
-HoldsIts known mech Failed = Unit {0}
+-- what a login of that mechanism and nonce holds at its stage follows from its pin
+abbrev pub HoldsIts : Known → Mech → List ℕ → ContextStage → Type 0
+HoldsIts known mech nonce Fresh = Unit {0}
+HoldsIts known mech nonce (Loading p) = IsPin known mech p
+HoldsIts known mech nonce (Named p key) = IsPin known mech p × IsKey known mech nonce p key
+HoldsIts known mech nonce (Checking p key evidence) =
+    IsPin known mech p × IsKey known mech nonce p key × (is_evidence_of mech evidence ≡ true)
+HoldsIts known mech nonce (Proved p) = IsPin known mech p
+HoldsIts known mech nonce (Authorized p) = IsPin known mech p
+HoldsIts known mech nonce (Complete p) = IsPin known mech p
+HoldsIts known mech nonce Failed = Unit {0}
 
 -- an authorized login has its identity ready to be handed out
 abbrev pub HasHandout : Known → Option Prepared → ContextStage → Type 0
@@ -72,7 +73,12 @@ HasHandout known prepared stage = Unit {0}
 
 -- a login holds what follows from its pin, and has its identity ready where it is authorized
 abbrev pub IsSoundAt : Known → Option Prepared → ContextLogin → Type 0
-IsSoundAt known prepared login = HoldsIts known login.mech login.stage × HasHandout known prepared login.stage
+IsSoundAt known prepared login = HoldsIts known login.mech login.nonce login.stage × HasHandout known prepared login.stage
+
+-- each live login holds what follows from its pin
+abbrev pub HoldTheirs : Known → List (ℕ × ContextLogin) → Type 0
+HoldTheirs known logins = (c : ℕ) (login : ContextLogin) → login_of logins c ≡ Some login
+    → HoldsIts known login.mech login.nonce login.stage
 
 -- whatever was sound of the login before is sound of it after
 abbrev pub StaysSound : Known → ContextLogin → ContextLogin → Type 0

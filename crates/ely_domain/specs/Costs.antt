@@ -12,7 +12,7 @@ use Rattle.ely_domain.specs.declared.event.Event.{Event}
 use Rattle.ely_domain.specs.declared.event.Event.TheVariants as events
 use Rattle.ely_domain.specs.Given.{Given}
 use Rattle.ely_domain.specs.Identities.{Known, ident, key_at}
-use Rattle.ely_domain.specs.Logins.{Pinned, KnownStage, KnownLogin, Live}
+use Rattle.ely_domain.specs.Logins.{KnownStage, KnownLogin, Live}
 use Rattle.ely_domain.specs.Lines.{Taken}
 use Rattle.ely_domain.specs.Machine.{Machine, known, step}
 use Rattle.ely_domain.specs.Steps.{carried, is_carried}
@@ -22,10 +22,11 @@ abbrev pub row_cost : Known → Mech → Option Row → ℕ
 row_cost known mech None = 0
 row_cost known mech (Some row) = ready_cost known.given.config.params mech row
 
--- what it takes to judge evidence with a key: by PLAIN the turns of a salted one
+-- what it takes to judge evidence with a key: by PLAIN the turns of a salted one, by SCRAM two signatures
 abbrev pub proof_cost : Option Ready → Evidence → ℕ
 proof_cost None evidence = 0
 proof_cost (Some key) (evidences.Plain password) = guess_cost key.cred
+proof_cost (Some key) (evidences.Scram last) = 2
 
 -- what the second half of a naming takes at a stage: the derivation of the pinned version's key
 abbrev pub naming_cost : Known → KnownLogin → KnownStage → ℕ
@@ -40,8 +41,8 @@ check_cost known login stage = 0
 
 -- what a step of a login takes that is there and has the serial
 abbrev pub reply_cost : Known → KnownLogin → Event → ℕ
-reply_cost known login (events.Name2 c serial) = naming_cost known login login.stage
-reply_cost known login (events.Check2 c serial) = check_cost known login login.stage
+reply_cost known login (events.Name2 c serial brought) = naming_cost known login login.stage
+reply_cost known login (events.Check2 c serial brought) = check_cost known login login.stage
 reply_cost known login _ = 0
 
 -- the same where this is found under its id; a step of another login is gone, and takes nothing
@@ -55,8 +56,8 @@ login_cost known live event c = cost_for known event (login_of live.logins c)
 
 -- what a step of the machine takes: none takes any but the second half of a naming or of a check
 unfoldable pub step_cost : Given → Machine → Event → ℕ
-step_cost given m (events.Name2 c serial) = login_cost (known given m) m.live (events.Name2 c serial) c
-step_cost given m (events.Check2 c serial) = login_cost (known given m) m.live (events.Check2 c serial) c
+step_cost given m (events.Name2 c serial brought) = login_cost (known given m) m.live (events.Name2 c serial brought) c
+step_cost given m (events.Check2 c serial brought) = login_cost (known given m) m.live (events.Check2 c serial brought) c
 step_cost given m _ = 0
 
 -- what all steps of a history take, from a machine on

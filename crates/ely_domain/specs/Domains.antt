@@ -1,6 +1,4 @@
 -- What a domain is seen as.
-use Rattle.std.specs.Prelude.{ℕ, List, Option, Some, None}
-use Rattle.ely_context.specs.Logins.{state_at}
 use Rattle.ely_domain.specs.declared.event.Event.{Event}
 use Rattle.ely_domain.specs.declared.event.Event.TheVariants as events
 use Rattle.ely_domain.specs.Given.{Given}

@@ -1,7 +1,11 @@
 -- What a domain is made with, and what follows from it alone.
-use Rattle.std.specs.Prelude.{ℕ, List, [], ◌∷◌, codes, Option, None, unwrap_or, Result, Ok}
+use Rattle.std.specs.Prelude.{ℕ, List, [], ◌∷◌, ◌++◌, take, codes, Option, unwrap_or, Result, Ok}
+use Rattle.std.specs.Int.{w64, to_be_bytes}
+use Rattle.ely_base.specs.Texts.{hex_text}
+use Rattle.ely_hash.specs.Hashes.{sha256_hash}
 use Rattle.ely_row.specs.declared.edit.Edit.{Edit}
 use Rattle.ely_row.specs.declared.mech.Mech.{Mech}
+use Rattle.ely_row.specs.declared.mech.Mech.TheVariants as mechs
 use Rattle.ely_row.specs.declared.place.PipeFault.{PipeFault}
 use Rattle.ely_row.specs.declared.place.Place.{Place}
 use Rattle.ely_table.specs.declared.class.RealmClass.{RealmClass}
@@ -33,6 +37,12 @@ role_attribute given realm = codes "groups"
 unfoldable pub place_of : Given → List ℕ → Result Place PipeFault
 place_of given name = Ok (record { realm = main_realm; name = name })
 
--- the nonce of an open that brings this one or none: no mechanism that is built uses it
+-- the nonce of an open that brings none: the first 16 bytes of a digest of the seed and the serial, in hexadecimal
+unfoldable pub derived_nonce : List ℕ → ℕ → List ℕ
+derived_nonce seed serial =
+    hex_text (take 16 (sha256_hash.digest (seed ++ 0 ∷ [] ++ codes "nonce" ++ 0 ∷ [] ++ to_be_bytes w64 serial)))
+
+-- the nonce of an open that brings this one or none; PLAIN doesn't use it
 abbrev pub nonce_of : Given → Mech → ℕ → Option (List ℕ) → List ℕ
-nonce_of given mech serial brought = unwrap_or brought []
+nonce_of given mechs.Plain serial brought = unwrap_or brought []
+nonce_of given mech serial brought = unwrap_or brought (derived_nonce given.config.params.seed serial)

@@ -4,6 +4,8 @@ pub mod Logins
 pub mod Verdicts
 pub mod Steps
 pub mod Machine
+pub mod Jobs
+pub mod Handing
 pub mod Keeping
 pub mod Events
 pub mod Parts

@@ -106,10 +106,10 @@ step given m (events.Bad bad) = (outcomes.Bad bad, m)
 step given m (events.Change edit) = change m edit (fault (realms given) given.limit m.edits edit)
 step given m (events.Begin c mech brought) = begin given m c mech brought
 step given m (events.Name1 c claim) = with_answered m (answered (known given m) m.live (events.Name1 c claim) c)
-step given m (events.Name2 c serial) = with_answered m (answered (known given m) m.live (events.Name2 c serial) c)
+step given m (events.Name2 c serial brought) = with_answered m (answered (known given m) m.live (events.Name2 c serial brought) c)
 step given m (events.Check1 c serial evidence) =
     with_answered m (answered (known given m) m.live (events.Check1 c serial evidence) c)
-step given m (events.Check2 c serial) = with_answered m (answered (known given m) m.live (events.Check2 c serial) c)
+step given m (events.Check2 c serial brought) = with_answered m (answered (known given m) m.live (events.Check2 c serial brought) c)
 step given m (events.Authorize c) = with_answered m (answered (known given m) m.live (events.Authorize c) c)
 step given m (events.Allows c wanted) = with_answered m (answered (known given m) m.live (events.Allows c wanted) c)
 step given m (events.Succeed c) = with_answered m (answered (known given m) m.live (events.Succeed c) c)

@@ -1,5 +1,4 @@
 -- What a part that lends from its line says.
-use Rattle.std.specs.Prelude.{ℕ}
 use Rattle.ely_script.specs.declared.claim.Claim.TheVariants as claims
 use Rattle.ely_script.specs.declared.claim.Evidence.TheVariants as evidences
 use Rattle.ely_domain.specs.declared.part.Part.{Part as Lent}
@@ -12,8 +11,10 @@ seen_part (lent.Bad bad) = Bad bad
 seen_part (lent.Change edit) = Change edit.now
 seen_part (lent.Begin c mech brought) = Begin c mech brought.now
 seen_part (lent.PlainName c message) = Name1 c (claims.Plain message.now.authzid message.now.name)
+seen_part (lent.ScramName c message) = Name1 c (claims.Scram message.now)
 seen_part (lent.Name2 c) = Name2 c
 seen_part (lent.PlainCheck c message) = Check1 c (evidences.Plain message.now.password)
+seen_part (lent.ScramCheck c message) = Check1 c (evidences.Scram message.now)
 seen_part (lent.Check2 c) = Check2 c
 seen_part (lent.Authorize c) = Authorize c
 seen_part (lent.Allows c wanted) = Allows c wanted.now

@@ -37,6 +37,8 @@ parts_by (verbs.Begin c mech brought) = Begin c mech brought ∷ []
 parts_by (verbs.Plain c message) =
     Name1 c (claims.Plain message.authzid message.name) ∷ Name2 c
     ∷ Check1 c (evidences.Plain message.password) ∷ Check2 c ∷ []
+parts_by (verbs.First c message) = Name1 c (claims.Scram message) ∷ Name2 c ∷ []
+parts_by (verbs.Last c message) = Check1 c (evidences.Scram message) ∷ Check2 c ∷ []
 parts_by (verbs.Authorize c) = Authorize c ∷ []
 parts_by (verbs.Succeed c) = Succeed c ∷ []
 parts_by (verbs.Fail c) = Fail c ∷ []
@@ -59,9 +61,9 @@ event_of (Bad bad) carried = Some (events.Bad bad)
 event_of (Change edit) carried = Some (events.Change edit)
 event_of (Begin c mech brought) carried = Some (events.Begin c mech brought)
 event_of (Name1 c claim) carried = Some (events.Name1 c claim)
-event_of (Name2 c) carried = option_map (λ serial. events.Name2 c serial) carried
+event_of (Name2 c) carried = option_map (λ serial. events.Name2 c serial None) carried
 event_of (Check1 c evidence) carried = Some (events.Check1 c carried evidence)
-event_of (Check2 c) carried = option_map (λ serial. events.Check2 c serial) carried
+event_of (Check2 c) carried = option_map (λ serial. events.Check2 c serial None) carried
 event_of (Authorize c) carried = Some (events.Authorize c)
 event_of (Allows c wanted) carried = Some (events.Allows c wanted)
 event_of (Succeed c) carried = Some (events.Succeed c)

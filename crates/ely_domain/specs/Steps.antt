@@ -1,6 +1,6 @@
 -- What the machine answers to each step of a login: one definition for each event, by the stages of the table of states.
 use Rattle.std.specs.Prelude.{ℕ, List, ◌==◌, Bool, true, false, not, if◌then◌else◌, length, Option, Some, None, is_some, Result, Ok, Err}
-use Rattle.std.specs.Option.{ok_or}
+use Rattle.std.specs.Option.{ok_or, option_and_then}
 use Rattle.std.specs.Str.{bytes_eq}
 use Rattle.ely_base.specs.Refused.{◌>>=◌, refused_as}
 use Rattle.ely_row.specs.declared.mech.Mech.{Mech}
@@ -24,7 +24,7 @@ use Rattle.ely_domain.specs.declared.event.Event.TheVariants as events
 use Rattle.ely_domain.specs.Given.{place_of}
 use Rattle.ely_domain.specs.Identities.{Known, ident, key_at, roles, grants, to_log_in}
 use Rattle.ely_domain.specs.Logins.{Pinned, KnownStage, KnownLogin}
-use Rattle.ely_domain.specs.Verdicts.{exchange, verdict}
+use Rattle.ely_domain.specs.Verdicts.{exchange, server_first, verdict}
 
 -- what a step does to a login that is there: it isn't due at the login's stage, it leaves the login as it is, or it moves it
 pub data Reply : Type 0 where
@@ -40,20 +40,30 @@ moves outcome (Some stage) = Moves outcome stage
 -- the name that a claim is about
 abbrev pub claimed_name : Claim → List ℕ
 claimed_name (claims.Plain authzid name) = name
+claimed_name (claims.Scram first) = first.name
+
+-- an authorization name, where there is one, is another than the name
+abbrev pub differs : Option (List ℕ) → List ℕ → Bool
+differs None name = false
+differs (Some authzid) name = not (bytes_eq authzid name)
 
 -- the claim asks to act as another than it names
 abbrev pub is_other : Claim → Bool
-is_other (claims.Plain None name) = false
-is_other (claims.Plain (Some authzid) name) = not (bytes_eq authzid name)
+is_other (claims.Plain authzid name) = differs authzid name
+is_other (claims.Scram first) = differs first.authzid first.name
 
 -- the claim is of that mechanism
 abbrev pub is_claim_of : Mech → Claim → Bool
 is_claim_of mechs.Plain (claims.Plain authzid name) = true
+is_claim_of mechs.ScramSha1 (claims.Scram first) = true
+is_claim_of mechs.ScramSha256 (claims.Scram first) = true
 is_claim_of _ _ = false
 
 -- the evidence is of that mechanism
 abbrev pub is_evidence_of : Mech → Evidence → Bool
 is_evidence_of mechs.Plain (evidences.Plain password) = true
+is_evidence_of mechs.ScramSha1 (evidences.Scram last) = true
+is_evidence_of mechs.ScramSha256 (evidences.Scram last) = true
 is_evidence_of _ _ = false
 
 -- nothing, or the refusal where the test fails
@@ -86,9 +96,16 @@ abbrev pub name1 : Known → KnownLogin → Claim → KnownStage → Reply
 name1 known login claim Fresh = pinned_or (naming known login.mech claim)
 name1 known login claim stage = NotDue
 
--- what a login is told whose key is there: by PLAIN nothing more, since the server sends no message of its own
+-- the server's first message, where there is one
+abbrev pub announced : Option (List ℕ) → Outcome
+announced None = outcomes.Named
+announced (Some text) = outcomes.Challenge text
+
+-- what a login is told whose key is there: the server's first message for the key of the pinned version
 abbrev pub told_of_key : Known → KnownLogin → Pinned → Outcome
-told_of_key known login pin = outcomes.Named
+told_of_key known login pin =
+    let said = exchange known.given login.nonce pin.claim in
+    announced (option_and_then (server_first said) (key_at known login.mech pin.version pin.place))
 
 -- Name2: the key of what was pinned is there
 abbrev pub name2 : Known → KnownLogin → KnownStage → Reply
@@ -140,9 +157,9 @@ fail stage = moves outcomes.Fine (table.fail stage)
 -- what a step does to the login that it is on
 abbrev pub reply : Known → KnownLogin → Event → Reply
 reply known login (events.Name1 c claim) = name1 known login claim login.stage
-reply known login (events.Name2 c serial) = name2 known login login.stage
+reply known login (events.Name2 c serial brought) = name2 known login login.stage
 reply known login (events.Check1 c serial evidence) = check1 login evidence login.stage
-reply known login (events.Check2 c serial) = check2 known login login.stage
+reply known login (events.Check2 c serial brought) = check2 known login login.stage
 reply known login (events.Authorize c) = authorize known login.stage
 reply known login (events.Allows c wanted) = allows known wanted login.stage
 reply known login (events.Succeed c) = succeed known login.stage
@@ -151,9 +168,9 @@ reply known login _ = NotDue
 
 -- the serial that a step carries: it is one of the open with that serial, and of no later open of the same id
 abbrev pub carried : Event → Option ℕ
-carried (events.Name2 c serial) = Some serial
+carried (events.Name2 c serial brought) = Some serial
 carried (events.Check1 c serial evidence) = serial
-carried (events.Check2 c serial) = Some serial
+carried (events.Check2 c serial brought) = Some serial
 carried _ = None
 
 -- the login has the serial that is carried, if one is
@@ -163,8 +180,8 @@ is_carried (Some carried) serial = serial == carried
 
 -- the answer where a login's stage isn't the one that the step is due at: it is gone on, or its state is told
 abbrev pub not_due : Event → StateWord → Outcome
-not_due (events.Name2 c serial) state = outcomes.Gone
-not_due (events.Check2 c serial) state = outcomes.Gone
+not_due (events.Name2 c serial brought) state = outcomes.Gone
+not_due (events.Check2 c serial brought) state = outcomes.Gone
 not_due _ state = outcomes.State state
 
 -- the answer where there is no login

@@ -1,6 +1,6 @@
 -- Who gets in, said of a history's own events: what a naming pins, which check is passed, which login is authorized, who is
 -- established, and what he may do.
-use Rattle.std.specs.Prelude.{ℕ, ◌≡◌, Bool, true, false, if◌then◌else◌, List, [], ◌∷◌, ◌++◌, length, fold, Option, Some, None, IsSome, Result, Ok, Err}
+use Rattle.std.specs.Prelude.{ℕ, ◌≡◌, Bool, true, false, if◌then◌else◌, List, ◌∷◌, ◌++◌, length, fold, Option, Some, None, IsSome, Result, Ok, Err}
 use Rattle.std.specs.List.{filter_map}
 use Rattle.std.specs.Option.{option_or}
 use Rattle.ely_row.specs.declared.edit.Edit.{Edit}

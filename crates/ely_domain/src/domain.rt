@@ -1,11 +1,13 @@
 //! The domain: one step of it is one step of the machine that it stands for.
 
-ghost use Rattle.std.specs.Prelude.{◌≡◌, ◌<◌, ◌≤◌, ◌^◌, ◌-◌, [], IfOk, OnErr, IsOk, length};
+ghost use Rattle.std.specs.Prelude.{◌≡◌, ◌<◌, ◌≤◌, ◌^◌, ◌-◌, [], IfOk, OnErr, IsOk, None, length};
 ghost use Rattle.ely_context.specs.Logins.{state_at};
 ghost use Rattle.ely_domain.specs.Contexts.{IsSound, read_of, seen_live};
 ghost use Rattle.ely_domain.specs.Costs.{RoseBy, login_cost, step_cost};
 ghost use Rattle.ely_domain.specs.Domains.{IsLoginStep, TakesNoMemory, first_seen};
-ghost use Rattle.ely_domain.specs.Given.{Given, realms, nonce_of};
+ghost use Rattle.ely_domain.specs.Given.{Given, realms};
+ghost use Rattle.ely_domain.specs.Jobs.{Brings, BringsResult, job_of, job_behind};
+ghost use Rattle.ely_domain.specs.Handing.{job_ahead};
 ghost use Rattle.ely_domain.specs.Keeping.{Kept, word_due, stands_for, kept_after};
 ghost use Rattle.ely_domain.specs.Lines.{carrier, serial_given, serial_at};
 ghost use Rattle.ely_domain.specs.declared.event.Event.{Event};
@@ -14,12 +16,15 @@ ghost use Rattle.ely_table.specs.Faults.{fault};
 
 use crate::event::{Answer, Event};
 use crate::handouts::Handouts;
+use crate::jobs::{job_ahead, job_of};
 use crate::login_step::login_step;
 use crate::naming::main_realm;
+use crate::nonce::nonce_of;
 use ely_base::{Bytes, CtxId, Name, NoMemory, Refused, Serial, Version};
 use ely_config::Config;
 use ely_context::{Context, Logins};
 use ely_hash::Steps;
+use ely_job::{Job, discard};
 use ely_row::{Edit, Mech};
 use ely_script::{CacheWord, Outcome, StateWord};
 use ely_table::{RealmClass, Tables};
@@ -72,16 +77,6 @@ fn main_tables(alloc: Global, journal_limit: u32) -> Result<Tables, NoMemory>
     let mut realms: Vec<(Name, RealmClass)> = Vec::new(alloc);
     realms.push((main_realm(alloc)?, RealmClass::Modifiable))?;
     Tables::new(alloc, realms, journal_limit)
-}
-
-/// The nonce of an open that brings this one or none.
-fn nonce_of(alloc: Global, mech: Mech, serial: u64, brought: Option<Bytes>) -> Bytes
-    ensures { (given : Given) → result ≡ nonce_of given mech serial brought }
-{
-    match brought {
-        Some(nonce) => nonce,
-        None => Bytes::of(Vec::new(alloc)),
-    }
 }
 
 /// Why no login can be opened under this id.
@@ -189,7 +184,7 @@ impl Domain {
             return Ok(fault);
         }
         let serial = Serial(self.opened + 1);
-        let nonce = nonce_of(alloc, mech, self.opened + 1, brought);
+        let nonce = nonce_of(alloc, &self.config, mech, self.opened + 1, brought)?;
         self.logins.open(id, Context::begin(serial, mech, nonce))?;
         self.opened += 1;
         Ok(Outcome::Opened {
@@ -230,6 +225,8 @@ impl Domain {
         ensures takes_no_memory { TakesNoMemory event → IsOk result }
         ensures cost { RoseBy steps.old steps.new
             (login_cost (known self.old.given self.old.machine) self.old.machine.live event id) }
+        ensures brought { Brings (known self.old.given self.old.machine)
+            self.old.machine.live id event → steps.new ≡ steps.old }
     {
         login_step(
             alloc,
@@ -259,6 +256,8 @@ impl Domain {
         ensures takes_no_memory { TakesNoMemory event → IsOk result }
         ensures cost { RoseBy steps.old steps.new
             (step_cost self.old.given self.old.machine event) }
+        ensures brought { BringsResult (known self.old.given self.old.machine)
+            self.old.machine.live event → steps.new ≡ steps.old }
     {
         match event {
             Event::Bad { bad } => Ok(Outcome::Bad(bad)),
@@ -274,6 +273,14 @@ impl Domain {
             | Event::Succeed { ctx }
             | Event::Fail { ctx } => self.step_login(alloc, ctx, event, steps),
         }
+    }
+
+    /// The job of the login with this id and this serial, where it is loading or checked: what can be done for it elsewhere.
+    pub fn job_of(&self, alloc: Global, id: CtxId, serial: Serial) -> Result<Option<Job>, NoMemory>
+        ensures { IfOk result (λ job. job
+            ≡ job_of (known self.now.given self.now.machine) self.now.machine.live id serial) }
+    {
+        job_of(alloc, &self.config, &self.tables, &self.logins, id, serial)
     }
 
     /// The serial of the login with this id.
@@ -296,8 +303,19 @@ impl Domain {
         }
     }
 
+    /// The job that a step will hand out.
+    fn job_ahead(&self, alloc: Global, event: &Event) -> Result<Option<Job>, NoMemory>
+        ensures job { IfOk result (λ job. job
+            ≡ job_ahead (known self.now.given self.now.machine) self.now.machine.live event.now) }
+        ensures takes_no_memory { TakesNoMemory event.now → IsOk result }
+    {
+        job_ahead(alloc, &self.config, &self.tables, &self.logins, event)
+    }
+
     /// One step: the answer is the machine's, and the domain stands for the machine after it. The counter rises by what the
-    /// step costs at most: a naming derives its key, and a check tries its password; any other step costs nothing.
+    /// step costs at most: a naming derives its key, and a check judges what was shown; any other step costs nothing, and none
+    /// does with which the result of its login's job is brought. An accepted name1 or check1 hands out the job that its login
+    /// has then, for those who do it elsewhere.
     pub fn step<L: Ledger>(
         &mut self,
         alloc: Global,
@@ -313,11 +331,55 @@ impl Domain {
             ≡ kept_after self.old.given self.old.machine self.old.kept event answer.outcome answer.cache) }
         ensures serial { IfOk result (λ answer. answer.serial
             ≡ serial_given (carrier event) answer.outcome self.new.machine.live) }
+        ensures job { IfOk result (λ answer. answer.job
+            ≡ job_behind self.old.given self.old.machine event) }
         ensures given { self.new.given ≡ self.old.given }
         ensures err { OnErr result (self.new ≡ self.old) }
         ensures takes_no_memory { TakesNoMemory event → IsOk result }
         ensures cost { RoseBy steps.old steps.new
             (step_cost self.old.given self.old.machine event) }
+        ensures brought { BringsResult (known self.old.given self.old.machine)
+            self.old.machine.live event → steps.new ≡ steps.old }
+    {
+        match self.job_ahead(alloc, &event) {
+            Err(NoMemory) => {
+                discard(event);
+                Err(NoMemory)
+            }
+            Ok(job) => match self.step_here(alloc, event, steps) {
+                Err(NoMemory) => {
+                    discard(job);
+                    Err(NoMemory)
+                }
+                Ok(answer) => Ok(answer.with_job(job)),
+            },
+        }
+    }
+
+    /// The same step for those who do its job here: none is handed out.
+    pub fn step_here<L: Ledger>(
+        &mut self,
+        alloc: Global,
+        event: Event,
+        steps: &mut Steps<L>,
+    ) -> Result<Answer, NoMemory>
+        requires { self.old.machine.opened < 2 ^ 64 - 1 }
+        ensures answer { IfOk result (λ answer. (answer.outcome, self.new.machine)
+            ≡ step self.old.given self.old.machine event) }
+        ensures word { IfOk result (λ answer. stands_for answer.cache
+            ≡ word_due self.old.given self.old.machine self.old.kept event answer.outcome) }
+        ensures kept { IfOk result (λ answer. self.new.kept
+            ≡ kept_after self.old.given self.old.machine self.old.kept event answer.outcome answer.cache) }
+        ensures serial { IfOk result (λ answer. answer.serial
+            ≡ serial_given (carrier event) answer.outcome self.new.machine.live) }
+        ensures no_job { IfOk result (λ answer. answer.job ≡ None) }
+        ensures given { self.new.given ≡ self.old.given }
+        ensures err { OnErr result (self.new ≡ self.old) }
+        ensures takes_no_memory { TakesNoMemory event → IsOk result }
+        ensures cost { RoseBy steps.old steps.new
+            (step_cost self.old.given self.old.machine event) }
+        ensures brought { BringsResult (known self.old.given self.old.machine)
+            self.old.machine.live event → steps.new ≡ steps.old }
     {
         let of_login = event.carrier();
         let outcome = self.answer(alloc, event, steps)?;
@@ -327,6 +389,7 @@ impl Domain {
             outcome,
             cache,
             serial,
+            job: None,
         })
     }
 }

@@ -6,6 +6,7 @@ ghost use Rattle.ely_domain.specs.Lines.{carrier};
 ghost use Rattle.ely_domain.specs.Steps.{carried, is_carried, not_there};
 
 use ely_base::{Bytes, CtxId, Serial};
+use ely_job::{Done, Job, discard};
 use ely_row::{Edit, Mech};
 use ely_script::{BadLine, CacheWord, Claim, Evidence, Outcome, StateWord, StepWord};
 
@@ -29,9 +30,11 @@ pub enum Event {
         ctx: CtxId,
         claim: Claim,
     },
+    /// The key of what was pinned is due; with what came of its job, where that was done elsewhere.
     Name2 {
         ctx: CtxId,
         serial: Serial,
+        done: Option<Done>,
     },
     /// What a login shows; with the serial of its line's own name1, where it has one.
     Check1 {
@@ -39,9 +42,11 @@ pub enum Event {
         serial: Option<Serial>,
         evidence: Evidence,
     },
+    /// The verdict on what was shown is due; with what came of its job, where that was done elsewhere.
     Check2 {
         ctx: CtxId,
         serial: Serial,
+        done: Option<Done>,
     },
     Authorize {
         ctx: CtxId,
@@ -61,13 +66,32 @@ pub enum Event {
     },
 }
 
-/// What the domain answers to a step: the outcome, the word of what is kept, and the login's serial where an accepted open,
-/// name1 or check1 gives it to its line.
+/// What the domain answers to a step: the outcome, the word of what is kept, the login's serial where an accepted open, name1
+/// or check1 gives it to its line, and the job that an accepted name1 or check1 hands out.
 #[derive(Drop)]
 pub struct Answer {
     pub outcome: Outcome,
     pub cache: CacheWord,
     pub serial: Option<Serial>,
+    pub job: Option<Job>,
+}
+
+impl Answer {
+    /// The same answer with this job in place of its own.
+    pub(crate) fn with_job(self, job: Option<Job>) -> Answer
+        ensures outcome { result.outcome ≡ self.outcome }
+        ensures cache { result.cache ≡ self.cache }
+        ensures serial { result.serial ≡ self.serial }
+        ensures job { result.job ≡ job }
+    {
+        discard(self.job);
+        Answer {
+            outcome: self.outcome,
+            cache: self.cache,
+            serial: self.serial,
+            job,
+        }
+    }
 }
 
 /// The word of an edit.

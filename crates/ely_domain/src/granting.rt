@@ -82,7 +82,7 @@ fn prepared_for(alloc: Global, pin: &Pin) -> Result<Prepared, NoMemory>
 /// What a proved login would hand out, where the pinned version grants it to log in; or how it is refused.
 fn asked(alloc: Global, context: &Context) -> Result<Result<Prepared, Outcome>, NoMemory>
     ensures { IfOk result (λ found. (known : Known)
-        → HoldsIts known context.now.mech context.now.stage
+        → HoldsIts known context.now.mech context.now.nonce context.now.stage
         → Asks known context.now.stage found) }
 {
     let Some(pin) = context.proved() else {

@@ -8,9 +8,11 @@ mod domain;
 mod event;
 mod granting;
 mod handouts;
+mod jobs;
 mod laws;
 mod login_step;
 mod naming;
+mod nonce;
 mod part;
 mod prepared;
 

@@ -5,6 +5,7 @@ ghost use Rattle.ely_context.specs.Logins.{login_of};
 ghost use Rattle.ely_domain.specs.Contexts.{Answers, IsReply, IsSound, IsSoundAt, read_of, seen_live, seen_login};
 ghost use Rattle.ely_domain.specs.Costs.{RoseBy, cost_for, login_cost, reply_cost};
 ghost use Rattle.ely_domain.specs.Domains.{IsLoginStep, TakesNoMemory};
+ghost use Rattle.ely_domain.specs.Jobs.{BringsTo, Brings};
 ghost use Rattle.ely_domain.specs.Machine.{answered};
 ghost use Rattle.ely_domain.specs.Steps.{reply, not_due};
 
@@ -17,6 +18,7 @@ use ely_base::{CtxId, NoMemory};
 use ely_config::Config;
 use ely_context::{Context, Logins};
 use ely_hash::Steps;
+use ely_job::discard;
 use ely_script::Outcome;
 use ely_table::Tables;
 use std::alloc::Global;
@@ -47,12 +49,14 @@ fn move_login<L: Ledger>(
     ensures takes_no_memory { TakesNoMemory event → IsOk result }
     ensures cost { RoseBy steps.old steps.new
         (reply_cost (read_of config.now tables.now) (seen_login context.old) event) }
+    ensures brought { BringsTo (read_of config.now tables.now) (seen_login context.old) event
+        → steps.new ≡ steps.old }
 {
     match event {
         Event::Name1 { claim, .. } => name1(alloc, config, tables, context, claim),
-        Event::Name2 { .. } => name2(alloc, config, tables, context, steps),
+        Event::Name2 { done, .. } => name2(alloc, config, tables, context, done, steps),
         Event::Check1 { evidence, .. } => Ok(check1(context, evidence)),
-        Event::Check2 { .. } => Ok(check2(config, tables, context, steps)),
+        Event::Check2 { done, .. } => Ok(check2(config, tables, context, done, steps)),
         Event::Authorize { .. } => authorize(alloc, config, tables, context, handouts, id),
         Event::Allows { wanted, .. } => Ok(allows(context, &wanted)),
         Event::Succeed { .. } => Ok(succeed(config, tables, context, handouts, id)),
@@ -87,8 +91,11 @@ fn answer_found<L: Ledger>(
     ensures takes_no_memory { TakesNoMemory event → IsOk result }
     ensures cost { RoseBy steps.old steps.new
         (cost_for (read_of config.now tables.now) event (Some (seen_login context.old))) }
+    ensures brought { BringsTo (read_of config.now tables.now) (seen_login context.old) event
+        → steps.new ≡ steps.old }
 {
     if !event.is_carried(context.serial()) {
+        discard(event);
         return Ok(Outcome::Gone);
     }
     move_login(alloc, config, tables, context, handouts, id, event, steps)
@@ -116,9 +123,15 @@ pub(crate) fn login_step<L: Ledger>(
     ensures takes_no_memory { TakesNoMemory event → IsOk result }
     ensures cost { RoseBy steps.old steps.new
         (login_cost (read_of config.now tables.now) (seen_live logins.old) event id) }
+    ensures brought { Brings (read_of config.now tables.now) (seen_live logins.old) id event
+        → steps.new ≡ steps.old }
 {
     match logins.find_mut(id) {
-        None => Ok(event.not_there()),
+        None => {
+            let outcome = event.not_there();
+            discard(event);
+            Ok(outcome)
+        }
         Some(context) => {
             answer_found(alloc, config, tables, context, handouts, id, event, steps)
         }

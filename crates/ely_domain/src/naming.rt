@@ -1,21 +1,26 @@
 //! Naming a login in two steps: who it is, and with which key.
 
-ghost use Rattle.std.specs.Prelude.{◌≡◌, IfOk, OnErr, Ok, Option, Some, IsSome};
+ghost use Rattle.std.specs.Prelude.{◌≡◌, IfOk, IfSome, OnErr, Ok, Option, Some, IsSome};
 ghost use Rattle.ely_base.specs.Refused.{Gives};
 ghost use Rattle.ely_context.specs.declared.stage.Stage.TheVariants as stages;
 ghost use Rattle.ely_cred.specs.Keys.{chosen, ready_of, ready_cost};
 ghost use Rattle.ely_domain.specs.Contexts.{Finds, HoldsIts, IsReply, IsSoundAt, StaysSound, read_of, seen_login};
 ghost use Rattle.ely_domain.specs.Costs.{RoseBy, naming_cost};
 ghost use Rattle.ely_domain.specs.Given.{Given, main_realm, place_of};
-ghost use Rattle.ely_domain.specs.Steps.{claimed_name, is_other, is_claim_of, serving, name1, name2};
+ghost use Rattle.ely_domain.specs.Jobs.{IsBrought, job_at};
+ghost use Rattle.ely_job.specs.declared.job.Work.TheVariants as works;
+ghost use Rattle.ely_domain.specs.Steps.{claimed_name, differs, is_other, is_claim_of, serving, announced, name1, name2};
+ghost use Rattle.ely_domain.specs.Verdicts.{exchange, server_first};
 ghost use Rattle.ely_domain.specs.declared.prepared.Prepared.{Prepared};
 
-use ely_base::{Name, NoMemory, Refused};
+use ely_base::{Bytes, Name, NoMemory, Refused};
 use ely_config::Config;
 use ely_context::{Context, Pin};
-use ely_cred::{Ready, choose, derive};
+use ely_cred::{Ready, ReadyKey, choose, derive};
 use ely_hash::Steps;
+use ely_job::{Done, discard};
 use ely_row::{Mech, PipeFault, Place, RowSource, SharedRow};
+use ely_scram_msg::write_server_first;
 use ely_script::{Claim, Outcome, StateWord};
 use ely_table::Tables;
 use std::alloc::Global;
@@ -34,6 +39,17 @@ fn claimed_name(claim: &Claim) -> &Name
 {
     match claim {
         Claim::Plain { name, .. } => name,
+        Claim::Scram(first) => &first.name,
+    }
+}
+
+/// Whether an authorization name, where there is one, is another than the name.
+fn differs(authzid: &Option<Name>, name: &Name) -> bool
+    ensures { result ≡ differs authzid.now name.now }
+{
+    match authzid {
+        None => false,
+        Some(other) => !other.is(name),
     }
 }
 
@@ -42,10 +58,8 @@ fn is_other(claim: &Claim) -> bool
     ensures { result ≡ is_other claim.now }
 {
     match claim {
-        Claim::Plain { authzid, name } => match authzid {
-            None => false,
-            Some(other) => !other.is(name),
-        },
+        Claim::Plain { authzid, name } => differs(authzid, name),
+        Claim::Scram(first) => differs(&first.authzid, &first.name),
     }
 }
 
@@ -55,6 +69,7 @@ fn is_claim_of(mech: Mech, claim: &Claim) -> bool
 {
     match (mech, claim) {
         (Mech::Plain, Claim::Plain { .. }) => true,
+        (Mech::ScramSha1 | Mech::ScramSha256, Claim::Scram(_)) => true,
         _ => false,
     }
 }
@@ -100,7 +115,7 @@ fn serving_row(
 
 /// The place that a claim names, with its row; or the first cause against naming it.
 #[tactic(auto, unfolding(crate::specs::Steps::naming))]
-fn found_place(
+pub(crate) fn found_place(
     alloc: Global,
     config: &Config,
     tables: &Tables,
@@ -205,15 +220,80 @@ fn ready_for<L: Ledger>(
     )
 }
 
+/// The key that is brought, where it came of the derivation that is due.
+fn brought_key(config: &Config, pin: &Pin, mech: Mech, done: Option<Done>) -> Option<Ready>
+    ensures brought { IsBrought done
+        (Some (works.Derive pin.now.place pin.now.row mech config.now.params)) → IsSome result }
+    ensures value { IfSome result (λ ready. Some ready
+        ≡ ready_of config.now.params pin.now.place.realm pin.now.place.name mech pin.now.row) }
+{
+    done?.into_key(&pin.place, &pin.row, mech, &config.params)
+}
+
+/// The key of what was pinned: the one that is brought, or else it is derived here.
+fn ready_by<L: Ledger>(
+    alloc: Global,
+    config: &Config,
+    pin: &Pin,
+    mech: Mech,
+    done: Option<Done>,
+    steps: &mut Steps<L>,
+) -> Result<Ready, NoMemory>
+    requires { IsSome (chosen mech pin.now.row) }
+    ensures value { IfOk result (λ ready. Some ready
+        ≡ ready_of config.now.params pin.now.place.realm pin.now.place.name mech pin.now.row) }
+    ensures cost { RoseBy steps.old steps.new (ready_cost config.now.params mech pin.now.row) }
+    ensures brought { IsBrought done
+        (Some (works.Derive pin.now.place pin.now.row mech config.now.params))
+        → steps.new ≡ steps.old }
+{
+    match brought_key(config, pin, mech, done) {
+        Some(ready) => Ok(ready),
+        None => ready_for(alloc, config, pin, mech, steps),
+    }
+}
+
+/// The server's first message for a key: that of SCRAM has the whole nonce, the salt and the turns (RFC 5802 section 5.1).
+fn server_first(
+    alloc: Global,
+    nonce: &Bytes,
+    claim: &Claim,
+    ready: &Ready,
+) -> Result<Option<Bytes>, NoMemory>
+    ensures { IfOk result (λ text. (given : Given)
+        → text ≡ server_first (exchange given nonce.now claim.now) ready.now) }
+{
+    match (claim, ready.key()) {
+        (Claim::Scram(first), ReadyKey::Scram { salt, turns, .. }) => {
+            let mut whole = first.nonce.bytes().to_vec(alloc)?;
+            whole.extend_from_slice(nonce.bytes())?;
+            Ok(Some(write_server_first(alloc, &whole, salt.bytes(), *turns)?))
+        }
+        _ => Ok(None),
+    }
+}
+
+/// What a login is told by the server's first message, where there is one.
+fn announced(alloc: Global, server_first: &Option<Bytes>) -> Result<Outcome, NoMemory>
+    ensures { IfOk result (λ outcome. outcome ≡ announced server_first.now) }
+{
+    match server_first {
+        None => Ok(Outcome::Named),
+        Some(text) => Ok(Outcome::Challenge(text.copy(alloc)?)),
+    }
+}
+
 /// Gives a loading login the key of what it pinned.
 pub(crate) fn name2<L: Ledger>(
     alloc: Global,
     config: &Config,
     tables: &Tables,
     context: &mut Context,
+    done: Option<Done>,
     steps: &mut Steps<L>,
 ) -> Result<Outcome, NoMemory>
-    requires { HoldsIts (read_of config.now tables.now) context.old.mech context.old.stage }
+    requires { HoldsIts (read_of config.now tables.now)
+        context.old.mech context.old.nonce context.old.stage }
     ensures reply { IfOk result (λ outcome. IsReply
         (name2 (read_of config.now tables.now) (seen_login context.old)
         (seen_login context.old).stage)
@@ -223,14 +303,19 @@ pub(crate) fn name2<L: Ledger>(
     ensures cost { RoseBy steps.old steps.new
         (naming_cost (read_of config.now tables.now) (seen_login context.old)
         (seen_login context.old).stage) }
+    ensures brought { IsBrought done (job_at (read_of config.now tables.now)
+        (seen_login context.old) (seen_login context.old).stage) → steps.new ≡ steps.old }
 {
     let mech = context.mech();
     let Some(pin) = context.loading() else {
+        discard(done);
         return Ok(Outcome::Gone);
     };
-    let ready = ready_for(alloc, config, pin, mech, steps)?;
-    match context.name2(ready, None) {
-        Ok(()) => Ok(Outcome::Named),
+    let ready = ready_by(alloc, config, pin, mech, done, steps)?;
+    let server_first = server_first(alloc, context.nonce(), &pin.claim, &ready)?;
+    let outcome = announced(alloc, &server_first)?;
+    match context.name2(ready, server_first) {
+        Ok(()) => Ok(outcome),
         Err(_) => Ok(Outcome::Gone),
     }
 }

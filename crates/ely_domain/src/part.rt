@@ -1,6 +1,6 @@
 //! The parts of a line: its steps in order, and the event of each once it is known which serial the line carries.
 
-ghost use Rattle.std.specs.Prelude.{◌≡◌, slice_get, IfOk};
+ghost use Rattle.std.specs.Prelude.{◌≡◌, ◌≤◌, slice_get, IfOk};
 ghost use Rattle.std.specs.Option.{option_map};
 ghost use Rattle.ely_domain.specs.Parts.{parts_by, parts_of, actor_of, event_of};
 ghost use Rattle.ely_domain.specs.PartViews.{seen_part};
@@ -9,6 +9,7 @@ use crate::event::Event;
 use ely_base::{Bytes, CtxId, Name, NoMemory, Serial};
 use ely_plain::PlainMsg;
 use ely_row::{Edit, Mech};
+use ely_scram_msg::{ClientFirst, ClientLast};
 use ely_script::{BadLine, Claim, Command, Evidence, LineError, Verb};
 use std::alloc::Global;
 
@@ -20,8 +21,12 @@ pub enum Part<'a> {
     Begin(CtxId, Mech, &'a Option<Bytes>),
     /// Name1 and check1 of a PLAIN message.
     PlainName(CtxId, &'a PlainMsg),
+    /// Name1 of a first message of SCRAM.
+    ScramName(CtxId, &'a ClientFirst),
     Name2(CtxId),
     PlainCheck(CtxId, &'a PlainMsg),
+    /// Check1 of a last message of SCRAM.
+    ScramCheck(CtxId, &'a ClientLast),
     Check2(CtxId),
     Authorize(CtxId),
     Allows(CtxId, &'a Bytes),
@@ -30,27 +35,16 @@ pub enum Part<'a> {
     Close(CtxId),
 }
 
-/// A part of a PLAIN line, counted from 0.
-fn plain_part<'a>(ctx: CtxId, message: &'a PlainMsg, k: usize) -> Option<Part<'a>>
-    ensures { option_map seen_part result ≡ slice_get (parts_by (Verb.Plain ctx message.now)) k }
-{
-    match k {
-        0 => Some(Part::PlainName(ctx, message)),
-        1 => Some(Part::Name2(ctx)),
-        2 => Some(Part::PlainCheck(ctx, message)),
-        3 => Some(Part::Check2(ctx)),
-        _ => None,
-    }
-}
-
-/// The part of a verb that has one.
-fn lone_part(verb: &Verb) -> Option<Part<'_>>
+/// The first part of a verb, which for most is the only one.
+fn first_part(verb: &Verb) -> Option<Part<'_>>
     ensures { option_map seen_part result ≡ slice_get (parts_by verb.now) 0 }
 {
     match verb {
         Verb::Change { edit } => Some(Part::Change(edit)),
         Verb::Begin { ctx, mech, nonce } => Some(Part::Begin(*ctx, *mech, nonce)),
         Verb::Plain { ctx, message } => Some(Part::PlainName(*ctx, message)),
+        Verb::First { ctx, message } => Some(Part::ScramName(*ctx, message)),
+        Verb::Last { ctx, message } => Some(Part::ScramCheck(*ctx, message)),
         Verb::Authorize { ctx } => Some(Part::Authorize(*ctx)),
         Verb::Succeed { ctx } => Some(Part::Succeed(*ctx)),
         Verb::Fail { ctx } => Some(Part::Fail(*ctx)),
@@ -59,13 +53,38 @@ fn lone_part(verb: &Verb) -> Option<Part<'_>>
     }
 }
 
+/// The second part of a verb that has one.
+fn second_part(verb: &Verb) -> Option<Part<'_>>
+    ensures { option_map seen_part result ≡ slice_get (parts_by verb.now) 1 }
+{
+    match verb {
+        Verb::Plain { ctx, .. } => Some(Part::Name2(*ctx)),
+        Verb::First { ctx, .. } => Some(Part::Name2(*ctx)),
+        Verb::Last { ctx, .. } => Some(Part::Check2(*ctx)),
+        _ => None,
+    }
+}
+
+/// A later part of a verb, counted from 0.
+fn later_part(verb: &Verb, k: usize) -> Option<Part<'_>>
+    requires { 2 ≤ k }
+    ensures { option_map seen_part result ≡ slice_get (parts_by verb.now) k }
+{
+    match (verb, k) {
+        (Verb::Plain { ctx, message }, 2) => Some(Part::PlainCheck(*ctx, message)),
+        (Verb::Plain { ctx, .. }, 3) => Some(Part::Check2(*ctx)),
+        _ => None,
+    }
+}
+
 /// A part of a verb, counted from 0.
 fn verb_part(verb: &Verb, k: usize) -> Option<Part<'_>>
     ensures { option_map seen_part result ≡ slice_get (parts_by verb.now) k }
 {
-    match verb {
-        Verb::Plain { ctx, message } => plain_part(*ctx, message, k),
-        _ => { if k == 0 { lone_part(verb) } else { None } }
+    match k {
+        0 => first_part(verb),
+        1 => second_part(verb),
+        _ => later_part(verb, k),
     }
 }
 
@@ -130,18 +149,35 @@ pub fn event_of(
             ctx,
             claim: plain_claim(alloc, message)?,
         })),
+        Part::ScramName(ctx, message) => Ok(Some(Event::Name1 {
+            ctx,
+            claim: Claim::Scram(message.copy(alloc)?),
+        })),
         Part::Name2(ctx) => match carried {
             None => Ok(None),
-            Some(serial) => Ok(Some(Event::Name2 { ctx, serial })),
+            Some(serial) => Ok(Some(Event::Name2 {
+                ctx,
+                serial,
+                done: None,
+            })),
         },
         Part::PlainCheck(ctx, message) => Ok(Some(Event::Check1 {
             ctx,
             serial: carried,
             evidence: plain_evidence(alloc, message)?,
         })),
+        Part::ScramCheck(ctx, message) => Ok(Some(Event::Check1 {
+            ctx,
+            serial: carried,
+            evidence: Evidence::Scram(message.copy(alloc)?),
+        })),
         Part::Check2(ctx) => match carried {
             None => Ok(None),
-            Some(serial) => Ok(Some(Event::Check2 { ctx, serial })),
+            Some(serial) => Ok(Some(Event::Check2 {
+                ctx,
+                serial,
+                done: None,
+            })),
         },
         Part::Authorize(ctx) => Ok(Some(Event::Authorize { ctx })),
         Part::Allows(ctx, wanted) => Ok(Some(Event::Allows {

@@ -10,7 +10,6 @@ use Rattle.ely_script.specs.declared.word.CacheWord.{CacheWord}
 use Rattle.ely_script.specs.Lines.{ScriptLine}
 use Rattle.ely_script.specs.Text.{line_text, text, text_from, numbered}
 use Rattle.ely_domain.specs.Costs.{RoseBy, cost_from}
-use Rattle.ely_domain.specs.Domains.{Seen}
 use Rattle.ely_domain.specs.Given.{Given}
 use Rattle.ely_domain.specs.Histories.{machine_after}
 use Rattle.ely_domain.specs.Keeping.{Kept, first_kept, kept_after}

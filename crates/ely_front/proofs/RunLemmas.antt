@@ -1,18 +1,14 @@
 -- A line that is run part by part.
-use Rattle.std.proofs.Common.{◌≡◌, ℕ, zero, suc, lit≤, leb, ◌+◌, ◌-◌, ◌^◌, ◌<◌, ◌≤◌, Bool, true, false, not, cond, List, [], ◌∷◌, ◌++◌, length, drop, Option, Some, None, Result, Ok, Err, OnErr, refl, sym, ap, ◌∙◌, ⊎_elim, ◌⊎◌, inl, inr, arith, add-one, append_assoc, append-nil}
-use Rattle.std.specs.Prelude.{is_some, slice_get}
-use Rattle.std.specs.Option.{option_map}
+use Rattle.std.proofs.Common.{◌≡◌, ℕ, zero, suc, ◌+◌, ◌-◌, ◌^◌, ◌<◌, ◌≤◌, Bool, true, false, not, List, [], ◌∷◌, ◌++◌, length, drop, Option, Some, None, Result, Ok, Err, OnErr, refl, sym, ap, ◌∙◌, ⊎_elim, ◌⊎◌, arith, add-one, append_assoc, append-nil}
+use Rattle.std.specs.Prelude.{slice_get}
 use Rattle.ely_script.specs.declared.entry.Entry.{Entry}
-use Rattle.ely_script.specs.declared.word.CacheWord.{CacheWord}
 use Rattle.ely_script.specs.Lines.{ScriptLine}
 use Rattle.ely_script.specs.Outcomes.{is_accepted}
 use Rattle.ely_domain.specs.declared.event.Event.{Event}
 use Rattle.ely_domain.specs.Costs.{RoseBy, step_cost, cost_from}
 use Rattle.ely_domain.specs.Domains.{Seen}
 use Rattle.ely_domain.specs.Given.{Given}
-use Rattle.ely_domain.specs.Histories.{machine_after}
-use Rattle.ely_domain.specs.Keeping.{word_due, stands_for, kept_after}
-use Rattle.ely_domain.specs.Lines.{Ran, Taken, taken, carried_after, after_first, run_parts, entry_at, entries_at, AreShown, kept_past}
+use Rattle.ely_domain.specs.Lines.{Ran, Taken, taken, carried_after, after_first, run_parts, entries_at}
 use Rattle.ely_domain.specs.Machine.{Machine, step}
 use Rattle.ely_domain.specs.Parts.{Part, parts_of, event_of}
 use Rattle.ely_domain.proofs.Opened.{step_opens, stays_by, quiet, quiet_drop, quiet_first, lone_or_quiet}

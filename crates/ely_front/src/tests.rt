@@ -234,6 +234,132 @@ const PINNED_TEXT: &[u8] = b"1 0 1 add ok 1
 20 0 14 check2 password
 ";
 
+/// The login of RFC 5802 section 5, with what it is told at each wrong turn before, and edits between its two messages.
+const SCRAM: &[u8] = b"{}
+0 add main user
+0 set-cred main user 1 scram-sha-1 4096:QSXCR+Q6sek8bf92:HZbuOlKbWl+eR8AfIposuKbhX30=
+0 open 1 SCRAM-SHA-1 3rfcNHYJY1ZVvWVs7j
+0 plain 1 AHVzZXIAcGVuY2ls
+0 final 1 c=biws,r=fyko+d2lbbFgONRv9qkxdawL3rfcNHYJY1ZVvWVs7j,p=v0X8v3Bz2T0CJGbJQyF0X+HI4Ts=
+0 first 1 n,a=other,n=user,r=abc
+0 first 1 n,,n=bob,r=abc
+0 first 1 n,,n=user,r=fyko+d2lbbFgONRv9qkxdawL
+0 first 1 n,,n=user,r=fyko+d2lbbFgONRv9qkxdawL
+0 plain 1 AHVzZXIAcGVuY2ls
+0 remove main user
+0 add main user
+0 final 1 c=biws,r=fyko+d2lbbFgONRv9qkxdawL3rfcNHYJY1ZVvWVs7j,p=v0X8v3Bz2T0CJGbJQyF0X+HI4Ts=
+0 authorize 1
+0 succeed 1
+0 open 2 SCRAM-SHA-1
+0 first 2 n,,n=user,r=abc
+";
+
+const SCRAM_TEXT: &[u8] = b"1 0 1 add ok 1
+2 0 2 set-cred ok 2
+3 0 3 open ok 1
+4 0 4 name1 mechanism SCRAM-SHA-1
+5 0 5 check1 state fresh
+6 0 6 name1 authzid
+7 0 7 name1 unknown
+8 0 8 name1 pinned 2 -
+9 0 8 name2 challenge r=fyko+d2lbbFgONRv9qkxdawL3rfcNHYJY1ZVvWVs7j,s=QSXCR+Q6sek8bf92,i=4096 -
+10 0 9 name1 state named
+11 0 10 name1 state named
+12 0 11 remove ok 3
+13 0 12 add ok 4
+14 0 13 check1 ok
+15 0 13 check2 proved v=rmF9pqV8S7suAoZWja4dJRkFsKQ=
+16 0 14 authorize authorized
+17 0 15 succeed established 2 main user roles=
+18 0 16 open ok 2
+19 0 17 name1 no-credential
+";
+
+/// Last messages of other logins: another binding, another nonce, another proof by its last bit, one byte less and none.
+const UNPROVED: &[u8] = b"{}
+0 add main user
+0 set-cred main user 1 scram-sha-1 4096:QSXCR+Q6sek8bf92:HZbuOlKbWl+eR8AfIposuKbhX30=
+0 open 1 SCRAM-SHA-1 3rfcNHYJY1ZVvWVs7j
+0 first 1 n,,n=user,r=fyko+d2lbbFgONRv9qkxdawL
+0 final 1 c=eSws,r=fyko+d2lbbFgONRv9qkxdawL3rfcNHYJY1ZVvWVs7j,p=v0X8v3Bz2T0CJGbJQyF0X+HI4Ts=
+0 final 1 c=biws,r=fyko+d2lbbFgONRv9qkxdawL3rfcNHYJY1ZVvWVs7j,p=v0X8v3Bz2T0CJGbJQyF0X+HI4Ts=
+0 open 2 SCRAM-SHA-1 3rfcNHYJY1ZVvWVs7j
+0 first 2 n,,n=user,r=fyko+d2lbbFgONRv9qkxdawL
+0 final 2 c=biws,r=fyko+d2lbbFgONRv9qkxdawL,p=v0X8v3Bz2T0CJGbJQyF0X+HI4Ts=
+0 open 3 SCRAM-SHA-1 3rfcNHYJY1ZVvWVs7j
+0 first 3 n,,n=user,r=fyko+d2lbbFgONRv9qkxdawL
+0 final 3 c=biws,r=fyko+d2lbbFgONRv9qkxdawL3rfcNHYJY1ZVvWVs7j,p=v0X8v3Bz2T0CJGbJQyF0X+HI4To=
+0 open 4 SCRAM-SHA-1 3rfcNHYJY1ZVvWVs7j
+0 first 4 n,,n=user,r=fyko+d2lbbFgONRv9qkxdawL
+0 final 4 c=biws,r=fyko+d2lbbFgONRv9qkxdawL3rfcNHYJY1ZVvWVs7j,p=v0X8v3Bz2T0CJGbJQyF0X+HI4Q==
+";
+
+const UNPROVED_TEXT: &[u8] = b"1 0 1 add ok 1
+2 0 2 set-cred ok 2
+3 0 3 open ok 1
+4 0 4 name1 pinned 2 -
+5 0 4 name2 challenge r=fyko+d2lbbFgONRv9qkxdawL3rfcNHYJY1ZVvWVs7j,s=QSXCR+Q6sek8bf92,i=4096 -
+6 0 5 check1 ok
+7 0 5 check2 binding e=channel-bindings-dont-match
+8 0 6 check1 state failed
+9 0 7 open ok 2
+10 0 8 name1 pinned 2 -
+11 0 8 name2 challenge r=fyko+d2lbbFgONRv9qkxdawL3rfcNHYJY1ZVvWVs7j,s=QSXCR+Q6sek8bf92,i=4096 -
+12 0 9 check1 ok
+13 0 9 check2 nonce e=other-error
+14 0 10 open ok 3
+15 0 11 name1 pinned 2 -
+16 0 11 name2 challenge r=fyko+d2lbbFgONRv9qkxdawL3rfcNHYJY1ZVvWVs7j,s=QSXCR+Q6sek8bf92,i=4096 -
+17 0 12 check1 ok
+18 0 12 check2 proof e=invalid-proof
+19 0 13 open ok 4
+20 0 14 name1 pinned 2 -
+21 0 14 name2 challenge r=fyko+d2lbbFgONRv9qkxdawL3rfcNHYJY1ZVvWVs7j,s=QSXCR+Q6sek8bf92,i=4096 -
+22 0 15 check1 ok
+23 0 15 check2 proof e=invalid-proof
+";
+
+/// A login of SCRAM-SHA-256 by a password in the clear, under the salt and the nonce that the domain derives (Python's hashlib),
+/// and that of RFC 7677 section 3.
+const SCRAM256: &[u8] = b"{}
+0 add main user
+0 set-cred main user 1 clear pencil
+0 open 1 SCRAM-SHA-256
+0 first 1 n,,n=user,r=abc
+0 final 1 c=biws,r=abcfa94f5bc34ba30ecb04f983abf7c5954,p=J9GWDFQbVLWF5s2R7i3E8ch2PdG1jCdR6SjPR6JGcNY=
+0 set-cred main user 0 scram-sha-256 4096:W22ZaJ0SNY7soEsUEjb6gQ==:xKSVEDI6tPlSysH6mUQZOeeOp01r6B3fcJbodRPcYV0=
+0 open 2 SCRAM-SHA-256 %hvYDpWUa2RaTCAfuxFIlj)hNlF$k0
+0 first 2 n,,n=user,r=rOprNGfwEbeRWgbNEkqO
+0 final 2 c=biws,r=rOprNGfwEbeRWgbNEkqO%hvYDpWUa2RaTCAfuxFIlj)hNlF$k0,p=dHzbZapWIk4jUhN+Ute9ytag9zjfMHgsqmmiz7AndVQ=
+";
+
+const SCRAM256_TEXT: &[u8] = b"1 0 1 add ok 1
+2 0 2 set-cred ok 2
+3 0 3 open ok 1
+4 0 4 name1 pinned 2 -
+5 0 4 name2 challenge r=abcfa94f5bc34ba30ecb04f983abf7c5954,s=MIxFifIE29fdUPBJ47MpYA==,i=4096 -
+6 0 5 check1 ok
+7 0 5 check2 proved v=SrhDZakgImr//rp2wWTp0a59xAGb5UXMzZn8l1Pnmwc=
+8 0 6 set-cred ok 3
+9 0 7 open ok 2
+10 0 8 name1 pinned 3 -
+11 0 8 name2 challenge r=rOprNGfwEbeRWgbNEkqO%hvYDpWUa2RaTCAfuxFIlj)hNlF$k0,s=W22ZaJ0SNY7soEsUEjb6gQ==,i=4096 -
+12 0 9 check1 ok
+13 0 9 check2 proved v=6rriTRBi23WpRR/wtup+mMhUZUn/dB5nLTJRsjl95G4=
+";
+
+#[test]
+fn scram_logins_print_their_history(rt: HostRuntime) -> Result<(), Fail> {
+    let rows: [Row; 3] = [
+        (SCRAM, 0, SCRAM_TEXT),
+        (UNPROVED, 0, UNPROVED_TEXT),
+        (SCRAM256, 0, SCRAM256_TEXT),
+    ];
+    assert_eq!(rt; first_wrong(&rt, &rows)?, None);
+    Ok(())
+}
+
 #[test]
 fn scripts_print_their_history(rt: HostRuntime) -> Result<(), Fail> {
     let rows: [Row; 6] = [

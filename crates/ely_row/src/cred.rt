@@ -1,6 +1,6 @@
 //! What an identity proves itself with, in the five kinds in which it is stored.
 
-ghost use Rattle.std.specs.Prelude.{◌≡◌, IsTrue, is_some, IfSome, IfOk};
+ghost use Rattle.std.specs.Prelude.{◌≡◌, ◌↔◌, IsTrue, is_some, IfSome, IfOk};
 ghost use Rattle.std.specs.List.{list_any};
 ghost use Rattle.ely_base.specs.Names.{is_barred};
 ghost use Rattle.ely_base.specs.Refused.{Gives};
@@ -10,6 +10,7 @@ use crate::fault::CredFault;
 use crate::ha1::{Ha1, read_hashed};
 use crate::salted::{Salted, read_salted};
 use ely_base::{Bytes, NoMemory, Refused, text_len};
+use ely_hash::same;
 use std::alloc::Global;
 use std::marker::Model;
 
@@ -130,6 +131,20 @@ fn is_stored(credential: &Credential) -> bool
     }
 }
 
+/// Whether both are equal.
+fn same_credential(credential: &Credential, other: &Credential) -> bool
+    ensures { IsTrue result ↔ (credential.now ≡ other.now) }
+{
+    match (credential, other) {
+        (Credential::Clear(a), Credential::Clear(b)) => same(a.bytes(), b.bytes()),
+        (Credential::ScramSha1(a), Credential::ScramSha1(b)) => a.same(b),
+        (Credential::ScramSha256(a), Credential::ScramSha256(b)) => a.same(b),
+        (Credential::DigestMd5(a), Credential::DigestMd5(b)) => a.same(b),
+        (Credential::DigestSha256(a), Credential::DigestSha256(b)) => a.same(b),
+        _ => false,
+    }
+}
+
 impl StoredCred {
     /// Reads a credential of a kind from its text, or says its first fault. The kinds are `clear` (the password),
     /// `scram-sha-1` and `scram-sha-256` (`TURNS:SALT:KEY`, a number and two base64 texts), `digest-md5` and
@@ -176,5 +191,12 @@ impl StoredCred {
             Credential::DigestSha256(ha1) => Credential::DigestSha256(ha1.copy(alloc)?),
         };
         Ok(StoredCred { credential })
+    }
+
+    /// Whether both are equal.
+    pub fn same(&self, other: &StoredCred) -> bool
+        ensures { IsTrue result ↔ (self.now ≡ other.now) }
+    {
+        same_credential(&self.credential, &other.credential)
     }
 }

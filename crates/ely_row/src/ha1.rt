@@ -1,6 +1,6 @@
 //! The hash that Digest keeps in place of a password, H(A1) of RFC 7616 section 3.4.2, with the realm that stands in it.
 
-ghost use Rattle.std.specs.Prelude.{◌≡◌, ◌⊎◌, length, IsTrue, is_some, IfSome, IfOk};
+ghost use Rattle.std.specs.Prelude.{◌≡◌, ◌↔◌, ◌⊎◌, length, IsTrue, is_some, IfSome, IfOk};
 ghost use Rattle.std.specs.List.{list_all};
 ghost use Rattle.ely_base.specs.Refused.{Gives};
 ghost use Rattle.ely_row.specs.Creds.{hex_part, mapped, sized_of, digest_realm_of, hashed_of};
@@ -9,7 +9,7 @@ ghost use Rattle.ely_row.specs.Salts.{is_realm_byte, is_realm_len, is_realm, is_
 use crate::cut::cut;
 use crate::fault::CredFault;
 use ely_base::{Bytes, NoMemory, Refused, read_hex};
-use ely_hash::Tag;
+use ely_hash::{Tag, same};
 use std::alloc::Global;
 use std::marker::Model;
 
@@ -149,5 +149,12 @@ impl Ha1 {
             realm: self.realm.copy(alloc)?,
             hash: self.hash,
         })
+    }
+
+    /// Whether both are equal.
+    pub fn same(&self, other: &Ha1) -> bool
+        ensures { IsTrue result ↔ (self.now ≡ other.now) }
+    {
+        same(self.realm.bytes(), other.realm.bytes()) && same(self.hash.bytes(), other.hash.bytes())
     }
 }

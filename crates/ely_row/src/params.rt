@@ -1,9 +1,10 @@
 //! What derives keys of a clear password, beside the password: the turns, the salt and the seed of derived salts.
 
-ghost use Rattle.std.specs.Prelude.{◌≡◌, ◌≤◌, [], length, IsTrue, IfOk, None};
+ghost use Rattle.std.specs.Prelude.{◌≡◌, ◌↔◌, ◌≤◌, [], length, IsTrue, IfOk, None};
 ghost use Rattle.ely_row.specs.Salts.{is_turns, is_salt_or_none, is_params, plain_params};
 
 use ely_base::{Bytes, NoMemory};
+use ely_hash::same;
 use std::alloc::Global;
 use std::marker::Model;
 
@@ -33,6 +34,17 @@ fn copy_salt(alloc: Global, salt: &Option<Bytes>) -> Result<Option<Bytes>, NoMem
     match salt {
         None => Ok(None),
         Some(salt) => Ok(Some(salt.copy(alloc)?)),
+    }
+}
+
+/// Whether both are the same salt, or there is none in either.
+fn same_salt(salt: &Option<Bytes>, other: &Option<Bytes>) -> bool
+    ensures { IsTrue result ↔ (salt.now ≡ other.now) }
+{
+    match (salt, other) {
+        (None, None) => true,
+        (Some(salt), Some(other)) => same(salt.bytes(), other.bytes()),
+        _ => false,
     }
 }
 
@@ -87,5 +99,14 @@ impl Params {
             salt: copy_salt(alloc, &self.salt)?,
             seed: self.seed.copy(alloc)?,
         })
+    }
+
+    /// Whether both are equal.
+    pub fn same(&self, other: &Params) -> bool
+        ensures { IsTrue result ↔ (self.now ≡ other.now) }
+    {
+        self.turns == other.turns
+            && same_salt(&self.salt, &other.salt)
+            && same(self.seed.bytes(), other.seed.bytes())
     }
 }

@@ -1,8 +1,9 @@
 //! Where an identity stands, and why a name has no place.
 
-ghost use Rattle.std.specs.Prelude.{◌≡◌, IfOk};
+ghost use Rattle.std.specs.Prelude.{◌≡◌, ◌↔◌, IsTrue, IfOk};
 
 use ely_base::{Bytes, Name, NoMemory};
+use ely_hash::same;
 use std::alloc::Global;
 
 /// A realm, and the name of an identity there.
@@ -21,6 +22,13 @@ impl Place {
             realm: self.realm.copy(alloc)?,
             name: self.name.copy(alloc)?,
         })
+    }
+
+    /// Whether both are equal.
+    pub fn same(&self, other: &Place) -> bool
+        ensures { IsTrue result ↔ (self.now ≡ other.now) }
+    {
+        same(self.realm.bytes(), other.realm.bytes()) && same(self.name.bytes(), other.name.bytes())
     }
 }
 

@@ -1,6 +1,6 @@
 //! An identity: its credentials by their slots and its attributes by their names.
 
-ghost use Rattle.std.specs.Prelude.{◌≡◌, ◌≤◌, IsTrue, length, IfOk, OnOk};
+ghost use Rattle.std.specs.Prelude.{◌≡◌, ◌↔◌, ◌≤◌, IsTrue, length, IfOk, OnOk};
 ghost use Rattle.std.specs.Option.{option_copied};
 ghost use Rattle.std.specs.Ordering.{nat_cmp};
 ghost use Rattle.std.specs.BTreeMap.{IsOrdered, insert_entry};
@@ -9,6 +9,7 @@ ghost use Rattle.ely_row.specs.Rows.{IsRow, name_cmp, empty_row, cred_at, has_cr
 use crate::cred::StoredCred;
 use crate::values::Values;
 use ely_base::{Name, NoMemory};
+use ely_hash::same;
 use std::alloc::Global;
 use std::collections::BTreeMap;
 use std::marker::Model;
@@ -79,6 +80,38 @@ fn copy_attrs(
         copy.insert(attr.copy(alloc)?, values.copy(alloc)?)?;
     }
     Ok(copy)
+}
+
+/// Whether both have equal credentials in the same slots.
+fn same_creds(creds: &BTreeMap<u8, StoredCred>, other: &BTreeMap<u8, StoredCred>) -> bool
+    ensures { IsTrue result ↔ (creds.now.entries ≡ other.now.entries) }
+{
+    let mut others = other.iter();
+    for (slot, cred) in creds {
+        let Some((other_slot, other_cred)) = others.next() else {
+            return false;
+        };
+        if slot != other_slot || !cred.same(other_cred) {
+            return false;
+        }
+    }
+    others.next().is_none()
+}
+
+/// Whether both have equal values of the same attributes.
+fn same_attrs(attrs: &BTreeMap<Name, Values>, other: &BTreeMap<Name, Values>) -> bool
+    ensures { IsTrue result ↔ (attrs.now.entries ≡ other.now.entries) }
+{
+    let mut others = other.iter();
+    for (attr, values) in attrs {
+        let Some((other_attr, other_values)) = others.next() else {
+            return false;
+        };
+        if !same(attr.bytes(), other_attr.bytes()) || !values.same(other_values) {
+            return false;
+        }
+    }
+    others.next().is_none()
 }
 
 impl Row {
@@ -203,5 +236,12 @@ impl Row {
             creds: copy_creds(alloc, &self.creds)?,
             attrs: copy_attrs(alloc, &self.attrs)?,
         })
+    }
+
+    /// Whether both are equal.
+    pub fn same(&self, other: &Row) -> bool
+        ensures { IsTrue result ↔ (self.now ≡ other.now) }
+    {
+        same_creds(&self.creds, &other.creds) && same_attrs(&self.attrs, &other.attrs)
     }
 }

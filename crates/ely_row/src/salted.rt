@@ -1,7 +1,7 @@
 //! A salted password with the turns and the salt that made it, which SCRAM keeps in place of a password (RFC 5802
 //! section 3). It knows the bounds of its parts and no hash function.
 
-ghost use Rattle.std.specs.Prelude.{◌≡◌, ◌⊎◌, ◌≤◌, IsTrue, is_some, IfSome, IfOk};
+ghost use Rattle.std.specs.Prelude.{◌≡◌, ◌↔◌, ◌⊎◌, ◌≤◌, IsTrue, is_some, IfSome, IfOk};
 ghost use Rattle.ely_base.specs.Refused.{Gives};
 ghost use Rattle.ely_row.specs.Creds.{turns_of, base64_part, salted_of};
 ghost use Rattle.ely_row.specs.Salts.{is_turns, is_salt, is_salted, is_salted_by};
@@ -9,7 +9,7 @@ ghost use Rattle.ely_row.specs.Salts.{is_turns, is_salt, is_salted, is_salted_by
 use crate::cut::cut;
 use crate::fault::CredFault;
 use ely_base::{Bytes, NoMemory, Refused, read_base64, read_number};
-use ely_hash::Tag;
+use ely_hash::{Tag, same};
 use std::alloc::Global;
 use std::marker::Model;
 
@@ -162,5 +162,14 @@ impl Salted {
             salt: self.salt.copy(alloc)?,
             salted: self.salted,
         })
+    }
+
+    /// Whether both are equal.
+    pub fn same(&self, other: &Salted) -> bool
+        ensures { IsTrue result ↔ (self.now ≡ other.now) }
+    {
+        self.turns == other.turns
+            && same(self.salt.bytes(), other.salt.bytes())
+            && same(self.salted.bytes(), other.salted.bytes())
     }
 }

@@ -1,6 +1,6 @@
 //! Rows that several hold at once, and whoever has rows to share.
 
-ghost use Rattle.std.specs.Prelude.{◌≡◌, ℕ, List, Option, IfOk};
+ghost use Rattle.std.specs.Prelude.{◌≡◌, ◌↔◌, ℕ, List, Option, IsTrue, IfOk};
 ghost use Rattle.std.specs.Option.{option_copied};
 ghost use Rattle.ely_row.specs.Rows.{Row};
 
@@ -49,6 +49,13 @@ impl SharedRow {
         ensures { result.now ≡ self.now }
     {
         &self.row
+    }
+
+    /// Whether both are equal rows.
+    pub fn same(&self, other: &SharedRow) -> bool
+        ensures { IsTrue result ↔ (self.now ≡ other.now) }
+    {
+        self.row.same(&other.row)
     }
 }
 

@@ -1,6 +1,6 @@
 //! The values of an attribute: 1 to 64 names in order.
 
-ghost use Rattle.std.specs.Prelude.{◌≡◌, IsTrue, is_ok, IfOk, IfErr};
+ghost use Rattle.std.specs.Prelude.{◌≡◌, ◌↔◌, IsTrue, is_ok, IfOk, IfErr};
 ghost use Rattle.ely_row.specs.Attributes.{is_values};
 
 use ely_base::{Items, Name, NoMemory};
@@ -38,6 +38,13 @@ fn copy_names(alloc: Global, names: &[Name]) -> Result<Vec<Name>, NoMemory>
     Ok(copy)
 }
 
+/// Whether both are the same names, in the same order.
+fn same_names(names: &[Name], other: &[Name]) -> bool
+    ensures { IsTrue result ↔ (names.now ≡ other.now) }
+{
+    names == other
+}
+
 impl Values {
     /// Keeps the names as values. The list comes back exactly where it is empty or has more than 64 names. It takes no
     /// memory.
@@ -69,5 +76,12 @@ impl Values {
         Ok(Values {
             names: Items::of(copy_names(alloc, self.names.all())?),
         })
+    }
+
+    /// Whether both are equal.
+    pub fn same(&self, other: &Values) -> bool
+        ensures { IsTrue result ↔ (self.now ≡ other.now) }
+    {
+        same_names(self.names.all(), other.names.all())
     }
 }

@@ -1,7 +1,7 @@
 //! The client's first message (RFC 5802 section 7): the gs2 header, and the bare message with the name and the nonce.
 //! It stands on the fields and on the readers of names, nonces and extensions.
 
-ghost use Rattle.std.specs.Prelude.{◌≡◌, IfOk};
+ghost use Rattle.std.specs.Prelude.{◌≡◌, ◌↔◌, IsTrue, IfOk};
 ghost use Rattle.ely_base.specs.Refused.{Gives, Reads};
 ghost use Rattle.ely_scram_msg.specs.ClientFirst.{authzid_of, client_first_of, first_of, first_parts, flag_of, username_of};
 
@@ -11,6 +11,7 @@ use crate::fault::{MsgFault, MsgKind};
 use crate::field::{Field, due};
 use crate::nonce::read_nonce;
 use ely_base::{Bytes, Name, NoMemory, Refused};
+use ely_hash::same;
 use std::alloc::Global;
 
 /// Whether the client knows channel binding (RFC 5802 section 6). Neither asks for it.
@@ -40,7 +41,7 @@ pub struct FirstView<'a> {
 }
 
 /// A client-first message that keeps its parts (RFC 5802 section 7).
-#[derive(Drop)]
+#[derive(Debug, Drop)]
 pub struct ClientFirst {
     /// The gs2-cbind-flag.
     pub flag: Flag,
@@ -76,6 +77,17 @@ impl FirstView<'_> {
     }
 }
 
+/// Whether both are the same name, or there is none in either.
+fn same_authzid(authzid: &Option<Name>, other: &Option<Name>) -> bool
+    ensures { IsTrue result ↔ (authzid.now ≡ other.now) }
+{
+    match (authzid, other) {
+        (None, None) => true,
+        (Some(name), Some(other)) => same(name.bytes(), other.bytes()),
+        _ => false,
+    }
+}
+
 impl ClientFirst {
     /// An equal message.
     pub fn copy(&self, alloc: Global) -> Result<ClientFirst, NoMemory>
@@ -89,6 +101,18 @@ impl ClientFirst {
             gs2: self.gs2.copy(alloc)?,
             bare: self.bare.copy(alloc)?,
         })
+    }
+
+    /// Whether both are equal.
+    pub fn same(&self, other: &ClientFirst) -> bool
+        ensures { IsTrue result ↔ (self.now ≡ other.now) }
+    {
+        self.flag == other.flag
+            && same_authzid(&self.authzid, &other.authzid)
+            && same(self.name.bytes(), other.name.bytes())
+            && same(self.nonce.bytes(), other.nonce.bytes())
+            && same(self.gs2.bytes(), other.gs2.bytes())
+            && same(self.bare.bytes(), other.bare.bytes())
     }
 }
 

@@ -1,7 +1,7 @@
 //! The client's last message (RFC 5802 section 7): the gs2 header once more, the whole nonce and the proof.
 //! It stands on the fields and on the readers of base64, nonces and extensions.
 
-ghost use Rattle.std.specs.Prelude.{◌≡◌, ◌<◌, ◌≤◌, ◌+◌, length, IfOk, IfSome};
+ghost use Rattle.std.specs.Prelude.{◌≡◌, ◌↔◌, ◌<◌, ◌≤◌, ◌+◌, length, IsTrue, IfOk, IfSome};
 ghost use Rattle.std.specs.Str.{IsCharBoundary};
 ghost use Rattle.ely_base.specs.Refused.{Gives, Reads};
 ghost use Rattle.ely_scram_msg.specs.Fields.{fields_left};
@@ -13,6 +13,7 @@ use crate::fault::{MsgFault, MsgKind};
 use crate::field::{Field, begins, due};
 use crate::nonce::read_nonce;
 use ely_base::{Bytes, NoMemory, Refused};
+use ely_hash::same;
 use std::alloc::Global;
 
 /// A client-final message that lends its parts from the text (RFC 5802 section 7).
@@ -29,7 +30,7 @@ pub struct LastView<'a> {
 }
 
 /// A client-final message that keeps its parts (RFC 5802 section 7).
-#[derive(Drop)]
+#[derive(Debug, Drop)]
 pub struct ClientLast {
     /// The channel binding: the gs2-header of the client's first message.
     pub binding: Bytes,
@@ -66,6 +67,16 @@ impl ClientLast {
             proof: self.proof.copy(alloc)?,
             without_proof: self.without_proof.copy(alloc)?,
         })
+    }
+
+    /// Whether both are equal.
+    pub fn same(&self, other: &ClientLast) -> bool
+        ensures { IsTrue result ↔ (self.now ≡ other.now) }
+    {
+        same(self.binding.bytes(), other.binding.bytes())
+            && same(self.nonce.bytes(), other.nonce.bytes())
+            && same(self.proof.bytes(), other.proof.bytes())
+            && same(self.without_proof.bytes(), other.without_proof.bytes())
     }
 }
 

@@ -1,5 +1,6 @@
 -- The words of a line behind its verb: how many there are, and what each stands for. Words are numbered from 1, the actor.
 use Rattle.std.specs.Prelude.{ℕ, ◌+◌, ◌-◌, ◌^◌, if◌then◌else◌, List, [], ◌∷◌, Option, Some, None, Result, Ok, Err}
+use Rattle.std.specs.List.{join_with_byte}
 use Rattle.std.specs.Option.{ok_or}
 use Rattle.ely_base.specs.Numbers.{number_of}
 use Rattle.ely_base.specs.Refused.{◌>>=◌, refused_as}
@@ -57,6 +58,11 @@ five_of words = do
 -- as many arguments as an attribute may have values: 1 to 64
 abbrev pub some_of : List (List ℕ) → Result (List (List ℕ)) BadLine
 some_of words = if is_values words then Ok words else Err bad.Arity
+
+-- the rest of the line, with its spaces as they stand; at least the space before it must stand there
+abbrev pub rest_of : List (List ℕ) → Result (List ℕ) BadLine
+rest_of [] = Err bad.Arity
+rest_of (word ∷ words) = Ok (join_with_byte 32 (word ∷ words))
 
 -- the number up to max that the word of this number is
 abbrev pub number_at : ℕ → ℕ → List ℕ → Result ℕ BadLine

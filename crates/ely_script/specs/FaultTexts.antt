@@ -12,6 +12,9 @@ use Rattle.ely_row.specs.declared.edit.PropFault.{PropFault}
 use Rattle.ely_row.specs.declared.edit.PropFault.TheVariants as props
 use Rattle.ely_row.specs.declared.place.PipeFault.{PipeFault}
 use Rattle.ely_row.specs.declared.place.PipeFault.TheVariants as pipes
+use Rattle.ely_scram_msg.specs.declared.fault.MsgFault.{MsgFault}
+use Rattle.ely_scram_msg.specs.declared.fault.MsgKind.{MsgKind}
+use Rattle.ely_scram_msg.specs.declared.fault.MsgKind.TheVariants as kinds
 use Rattle.ely_script.specs.declared.outcome.BadLine.{BadLine}
 use Rattle.ely_script.specs.declared.outcome.BadLine.TheVariants as bad
 
@@ -32,6 +35,23 @@ plain_text plain.EmptyName = codes "empty-name"
 plain_text plain.EmptyPassword = codes "empty-password"
 plain_text (plain.Name fault) = codes "name"
 
+-- what is wrong with a message of SCRAM
+abbrev pub kind_text : MsgKind → List ℕ
+kind_text kinds.Text = codes "text"
+kind_text kinds.Flag = codes "flag"
+kind_text kinds.Bound = codes "bound"
+kind_text kinds.Mandatory = codes "mandatory"
+kind_text kinds.Attr = codes "attr"
+kind_text kinds.Escape = codes "escape"
+kind_text kinds.Name = codes "name"
+kind_text kinds.Nonce = codes "nonce"
+kind_text kinds.Base64 = codes "base64"
+kind_text kinds.Trailing = codes "trailing"
+
+-- a fault of a message of SCRAM, with its offset there
+abbrev pub scram_text : MsgFault → List ℕ
+scram_text fault = kind_text fault.kind ++ codes " " ++ decimal fault.place
+
 -- a fault of a line
 abbrev pub bad_text : BadLine → List ℕ
 bad_text bad.Long = codes "long"
@@ -43,6 +63,7 @@ bad_text (bad.Number word) = codes "number " ++ decimal word
 bad_text (bad.Word word) = codes "word " ++ decimal word
 bad_text (bad.Cred fault) = codes "cred " ++ cred_text fault
 bad_text (bad.Plain fault) = codes "message " ++ plain_text fault
+bad_text (bad.Scram fault) = codes "message " ++ scram_text fault
 bad_text bad.NotBuilt = codes "not-built"
 
 -- a fault of a properties text

@@ -9,12 +9,15 @@ use Rattle.ely_plain.specs.declared.message.PlainMsg.{PlainMsg}
 use Rattle.ely_plain.specs.Messages.{plain_of}
 use Rattle.ely_row.specs.declared.mech.Mech.{Mech}
 use Rattle.ely_row.specs.declared.mech.Mech.TheVariants as mechs
+use Rattle.ely_scram_msg.specs.ClientFirst.{client_first_of}
+use Rattle.ely_scram_msg.specs.ClientLast.{client_last_of}
 use Rattle.ely_script.specs.declared.command.Verb.{Verb}
 use Rattle.ely_script.specs.declared.command.Verb.TheVariants as verbs
 use Rattle.ely_script.specs.declared.limits.TheConstants.{MAX_NONCE_BYTES, MAX_PERMISSION_BYTES}
 use Rattle.ely_script.specs.declared.outcome.BadLine.{BadLine}
 use Rattle.ely_script.specs.declared.outcome.BadLine.TheVariants as bad
-use Rattle.ely_script.specs.Arguments.{first_of, last_of, one_of, two_of, ctx_at, coded_at}
+use Rattle.ely_script.specs.Arguments.{first_of, last_of, one_of, two_of, rest_of, ctx_at, coded_at}
+use Rattle.ely_script.specs.Words.{mech_text}
 
 -- nothing, or that this isn't built yet
 abbrev pub built : Bool → Result (Unit {0}) BadLine
@@ -22,13 +25,15 @@ built later = if later then Err bad.NotBuilt else Ok tt
 
 -- the mechanisms that aren't built yet
 abbrev pub is_later_mech : List ℕ → Bool
-is_later_mech word =
-    bytes_eq word (codes "SCRAM-SHA-1") || bytes_eq word (codes "SCRAM-SHA-256")
-    || bytes_eq word (codes "DIGEST") || bytes_eq word (codes "DIGEST-SHA-256")
+is_later_mech word = bytes_eq word (mech_text mechs.Digest) || bytes_eq word (mech_text mechs.DigestSha256)
 
 -- the mechanism that the fourth word names
 abbrev pub mech_at : List ℕ → Result Mech BadLine
-mech_at word = if bytes_eq word (codes "PLAIN") then Ok mechs.Plain else Err (bad.Word 4)
+mech_at word =
+    if bytes_eq word (mech_text mechs.Plain) then Ok mechs.Plain
+    else (if bytes_eq word (mech_text mechs.ScramSha1) then Ok mechs.ScramSha1
+    else (if bytes_eq word (mech_text mechs.ScramSha256) then Ok mechs.ScramSha256
+    else Err (bad.Word 4)))
 
 -- a nonce: 1 to 128 printable bytes, none of them a space, a double quote, a comma or a backslash
 abbrev pub is_nonce : List ℕ → Bool
@@ -67,12 +72,27 @@ plain_line_of args = do
   message ← message_at words.1
   Ok (verbs.Plain ctx message)
 
--- first, or final, CTX and the rest of the line, which isn't built yet; the rest needs at least the space before it
-abbrev pub scram_of : List (List ℕ) → Result Verb BadLine
-scram_of args = do
-  ctx ← first_of args
-  rest ← first_of ctx.1
-  Err bad.NotBuilt
+-- CTX REST: the login that CTX names, and all that stands behind the space behind it
+abbrev pub ctx_rest_of : List (List ℕ) → Result (ℕ × List ℕ) BadLine
+ctx_rest_of args = do
+  first ← first_of args
+  rest ← rest_of first.1
+  ctx ← ctx_at 3 first.0
+  Ok (ctx, rest)
+
+-- first CTX REST, where REST is a client-first message (RFC 5802, section 7)
+abbrev pub first_line_of : List (List ℕ) → Result Verb BadLine
+first_line_of args = do
+  line ← ctx_rest_of args
+  message ← refused_as bad.Scram (client_first_of line.1)
+  Ok (verbs.First line.0 message)
+
+-- final CTX REST, where REST is a client-final message (RFC 5802, section 7)
+abbrev pub final_line_of : List (List ℕ) → Result Verb BadLine
+final_line_of args = do
+  line ← ctx_rest_of args
+  message ← refused_as bad.Scram (client_last_of line.1)
+  Ok (verbs.Last line.0 message)
 
 -- digest CTX METHOD TARGET and the rest of the line, which isn't built yet
 abbrev pub digest_of : List (List ℕ) → Result Verb BadLine

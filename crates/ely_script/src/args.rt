@@ -4,7 +4,7 @@ ghost use Rattle.std.specs.Prelude.{◌≡◌, ◌-◌, ◌^◌, ◌≤◌, IsTr
 ghost use Rattle.std.specs.Option.{option_map};
 ghost use Rattle.ely_base.specs.Refused.{Gives};
 ghost use Rattle.ely_row.specs.Attributes.{is_values};
-ghost use Rattle.ely_script.specs.Arguments.{first_of, last_of, none_of, one_of, two_of, three_of, five_of, some_of, number_at, ctx_at, coded_at, name_at, names_at, place_at};
+ghost use Rattle.ely_script.specs.Arguments.{first_of, last_of, none_of, one_of, two_of, three_of, five_of, some_of, rest_of, number_at, ctx_at, coded_at, name_at, names_at, place_at};
 
 use crate::outcome::BadLine;
 use ely_base::{Bytes, CtxId, Name, Refused, count_of, cut_at, or_fault, read_number, read_word};
@@ -23,7 +23,7 @@ impl From<BadLine> for Refused<BadLine> {
     }
 }
 
-/// A word of a line.
+/// A word of a line, or all that is left of it.
 #[derive(Drop)]
 pub(crate) struct Word<'a> {
     pub(crate) bytes: &'a [u8],
@@ -144,6 +144,17 @@ impl<'a> Args<'a> {
         match self.rest {
             Some(bytes) if count_of(bytes, b' ') < 64 => Ok(Args { rest: Some(bytes) }),
             _ => Err(BadLine::Arity),
+        }
+    }
+
+    /// The rest of the line, with its spaces. At least the space before it must stand there.
+    #[tactic(auto, using(crate::proofs::RestLemmas::rest_of_parts))]
+    pub(crate) fn rest(self) -> Result<Word<'a>, BadLine>
+        ensures { result ≡ rest_of self.entry }
+    {
+        match self.rest {
+            None => Err(BadLine::Arity),
+            Some(bytes) => Ok(Word { bytes }),
         }
     }
 

@@ -3,6 +3,7 @@
 ghost use Rattle.std.specs.Prelude.{◌≡◌, IfOk};
 
 use ely_base::{Bytes, Name, NoMemory};
+use ely_scram_msg::{ClientFirst, ClientLast};
 use std::alloc::Global;
 
 /// Who a login says that it is.
@@ -10,6 +11,8 @@ use std::alloc::Global;
 pub enum Claim {
     /// By PLAIN: who logs in, and who that one wants to act as.
     Plain { authzid: Option<Name>, name: Name },
+    /// By SCRAM: the client-first message, which names both (RFC 5802 section 5).
+    Scram(ClientFirst),
 }
 
 /// What a login shows for its claim.
@@ -17,6 +20,8 @@ pub enum Claim {
 pub enum Evidence {
     /// By PLAIN: the password.
     Plain { password: Bytes },
+    /// By SCRAM: the client-final message with its proof (RFC 5802 section 5).
+    Scram(ClientLast),
 }
 
 impl Claim {
@@ -29,6 +34,7 @@ impl Claim {
                 authzid: Name::copy_option(alloc, authzid)?,
                 name: name.copy(alloc)?,
             }),
+            Claim::Scram(message) => Ok(Claim::Scram(message.copy(alloc)?)),
         }
     }
 }
@@ -42,6 +48,7 @@ impl Evidence {
             Evidence::Plain { password } => Ok(Evidence::Plain {
                 password: password.copy(alloc)?,
             }),
+            Evidence::Scram(message) => Ok(Evidence::Scram(message.copy(alloc)?)),
         }
     }
 }

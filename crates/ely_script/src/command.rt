@@ -6,6 +6,7 @@ use crate::outcome::BadLine;
 use ely_base::{Bytes, CtxId, NoMemory};
 use ely_plain::PlainMsg;
 use ely_row::{Edit, Mech};
+use ely_scram_msg::{ClientFirst, ClientLast};
 use std::alloc::Global;
 
 /// What a line asks for.
@@ -25,6 +26,16 @@ pub enum Verb {
     Plain {
         ctx: CtxId,
         message: PlainMsg,
+    },
+    /// The client-first message of SCRAM (RFC 5802 section 7).
+    First {
+        ctx: CtxId,
+        message: ClientFirst,
+    },
+    /// The client-final message of SCRAM (RFC 5802 section 7).
+    Last {
+        ctx: CtxId,
+        message: ClientLast,
     },
     /// Asks whether the identity may log in.
     Authorize {
@@ -71,6 +82,14 @@ impl Verb {
                 nonce: Bytes::copy_option(alloc, nonce)?,
             }),
             Verb::Plain { ctx, message } => Ok(Verb::Plain {
+                ctx: *ctx,
+                message: message.copy(alloc)?,
+            }),
+            Verb::First { ctx, message } => Ok(Verb::First {
+                ctx: *ctx,
+                message: message.copy(alloc)?,
+            }),
+            Verb::Last { ctx, message } => Ok(Verb::Last {
                 ctx: *ctx,
                 message: message.copy(alloc)?,
             }),

@@ -13,7 +13,7 @@ use crate::edits::{
 };
 use crate::limits::MAX_LINE_BYTES;
 use crate::logins::{
-    read_allows, read_digest, read_only_ctx, read_open, read_plain_line, read_scram,
+    read_allows, read_digest, read_final, read_first, read_only_ctx, read_open, read_plain_line,
 };
 use crate::outcome::BadLine;
 use crate::verbs::{VerbWord, verb_word};
@@ -34,8 +34,8 @@ fn read_args(alloc: Global, verb: VerbWord, args: Args) -> Result<Verb, Refused<
         VerbWord::Reload => Ok(read_reload(args)?),
         VerbWord::Open => read_open(alloc, args),
         VerbWord::Plain => read_plain_line(alloc, args),
-        VerbWord::First => Ok(read_scram(args)?),
-        VerbWord::Final => Ok(read_scram(args)?),
+        VerbWord::First => read_first(alloc, args),
+        VerbWord::Final => read_final(alloc, args),
         VerbWord::Digest => Ok(read_digest(args)?),
         VerbWord::Authorize => Ok(Verb::Authorize {
             ctx: read_only_ctx(args)?,

@@ -2,15 +2,17 @@
 
 ghost use Rattle.std.specs.Prelude.{◌≡◌};
 ghost use Rattle.ely_base.specs.Refused.{Gives};
-ghost use Rattle.ely_script.specs.LoginLines.{built, is_later_mech, mech_at, is_nonce, nonce_at, open_of, message_at, plain_line_of, scram_of, digest_of, only_ctx_at, permission_at, allows_of};
+ghost use Rattle.ely_script.specs.LoginLines.{built, is_later_mech, mech_at, is_nonce, nonce_at, open_of, message_at, plain_line_of, ctx_rest_of, first_line_of, final_line_of, digest_of, only_ctx_at, permission_at, allows_of};
 
 use crate::args::{Args, Word};
 use crate::command::Verb;
 use crate::limits::{MAX_NONCE_BYTES, MAX_PERMISSION_BYTES};
 use crate::outcome::BadLine;
+use crate::word::mech_word;
 use ely_base::{Bytes, CtxId, Refused, are_printable_but, or_fault, read_base64, refused_as};
 use ely_plain::{PlainMsg, read_plain};
 use ely_row::Mech;
+use ely_scram_msg::{read_client_first, read_client_last};
 use std::alloc::Global;
 
 /// Nothing, or that this isn't built yet.
@@ -27,17 +29,18 @@ fn built(later: bool) -> Result<(), BadLine>
 fn is_later_mech(word: &[u8]) -> bool
     ensures { result ≡ is_later_mech word.now }
 {
-    word == b"SCRAM-SHA-1".as_slice()
-        || word == b"SCRAM-SHA-256".as_slice()
-        || word == b"DIGEST".as_slice()
-        || word == b"DIGEST-SHA-256".as_slice()
+    word == mech_word(Mech::Digest) || word == mech_word(Mech::DigestSha256)
 }
 
 fn read_mech(word: Word) -> Result<Mech, BadLine>
     ensures { result ≡ mech_at word.entry }
 {
-    if word.bytes == b"PLAIN".as_slice() {
+    if word.bytes == mech_word(Mech::Plain) {
         Ok(Mech::Plain)
+    } else if word.bytes == mech_word(Mech::ScramSha1) {
+        Ok(Mech::ScramSha1)
+    } else if word.bytes == mech_word(Mech::ScramSha256) {
+        Ok(Mech::ScramSha256)
     } else {
         Err(BadLine::Word(4))
     }
@@ -95,13 +98,30 @@ pub(crate) fn read_plain_line(alloc: Global, args: Args) -> Result<Verb, Refused
     Ok(Verb::Plain { ctx, message })
 }
 
-/// A line with a message of SCRAM, which isn't built yet.
-pub(crate) fn read_scram(args: Args) -> Result<Verb, BadLine>
-    ensures { result ≡ scram_of args.entry }
+/// The login that a line names, and all that stands behind the space behind it.
+fn read_ctx_rest(args: Args<'_>) -> Result<(CtxId, Word<'_>), BadLine>
+    ensures { result ≡ ctx_rest_of args.entry }
 {
-    let (_, args) = args.first()?;
-    args.first()?;
-    Err(BadLine::NotBuilt)
+    let (ctx, args) = args.first()?;
+    let rest = args.rest()?;
+    let ctx = ctx.ctx(3)?;
+    Ok((ctx, rest))
+}
+
+pub(crate) fn read_first(alloc: Global, args: Args) -> Result<Verb, Refused<BadLine>>
+    ensures { Gives result (first_line_of args.entry) }
+{
+    let (ctx, rest) = read_ctx_rest(args)?;
+    let message = refused_as(read_client_first(alloc, rest.bytes), BadLine::Scram)?;
+    Ok(Verb::First { ctx, message })
+}
+
+pub(crate) fn read_final(alloc: Global, args: Args) -> Result<Verb, Refused<BadLine>>
+    ensures { Gives result (final_line_of args.entry) }
+{
+    let (ctx, rest) = read_ctx_rest(args)?;
+    let message = refused_as(read_client_last(alloc, rest.bytes), BadLine::Scram)?;
+    Ok(Verb::Last { ctx, message })
 }
 
 /// A line with a header of Digest, which isn't built yet.

@@ -8,6 +8,7 @@ use ely_base::{Bytes, Items, Name, Serial, Version};
 use ely_hash::Tag;
 use ely_plain::PlainFault;
 use ely_row::{CredFault, EditFault, Mech, PipeFault, Place};
+use ely_scram_msg::MsgFault;
 
 /// Why a line is no command, the first fault. Words are counted from 1.
 #[derive(Clone, Copy, Debug, PartialEq, Eq)]
@@ -30,7 +31,9 @@ pub enum BadLine {
     Cred(CredFault),
     /// The message of PLAIN is faulty.
     Plain(PlainFault),
-    /// The program carries out no such line yet.
+    /// The message of SCRAM is faulty.
+    Scram(MsgFault),
+    /// The program carries out no such line yet: one of Digest, or a reload.
     NotBuilt,
 }
 

@@ -2,13 +2,14 @@
 
 ghost use Rattle.std.specs.Prelude.{◌≡◌, ◌++◌, codes, OnOk, OnErr};
 ghost use Rattle.ely_base.specs.Appended.{Extends};
-ghost use Rattle.ely_script.specs.FaultTexts.{cred_text, plain_text, bad_text, prop_text, fault_text, pipe_text};
+ghost use Rattle.ely_script.specs.FaultTexts.{cred_text, plain_text, kind_text, scram_text, bad_text, prop_text, fault_text, pipe_text};
 
 use crate::outcome::BadLine;
 use crate::write::{push_both, push_counted, push_text, push_worded};
 use ely_base::NoMemory;
 use ely_plain::PlainFault;
 use ely_row::{CredFault, EditFault, PipeFault, PropFault};
+use ely_scram_msg::{MsgFault, MsgKind};
 
 fn cred_word(fault: CredFault) -> &'static [u8]
     ensures { result.now ≡ cred_text fault }
@@ -36,14 +37,42 @@ fn push_plain(out: &mut Vec<u8>, fault: PlainFault) -> Result<(), NoMemory>
     }
 }
 
-/// Writes that a message is faulty.
-fn push_message(out: &mut Vec<u8>, fault: PlainFault) -> Result<(), NoMemory>
+/// Writes that a message of PLAIN is faulty.
+fn push_plain_message(out: &mut Vec<u8>, fault: PlainFault) -> Result<(), NoMemory>
     ensures ok { OnOk result
         (out.new.items ≡ out.old.items ++ (codes "message " ++ plain_text fault)) }
     ensures err { OnErr result (Extends out.old.items out.new.items) }
 {
     push_text(out, b"message ")?;
     push_plain(out, fault)?;
+    Ok(())
+}
+
+fn kind_word(kind: MsgKind) -> &'static [u8]
+    ensures { result.now ≡ kind_text kind }
+{
+    match kind {
+        MsgKind::Text => b"text",
+        MsgKind::Flag => b"flag",
+        MsgKind::Bound => b"bound",
+        MsgKind::Mandatory => b"mandatory",
+        MsgKind::Attr => b"attr",
+        MsgKind::Escape => b"escape",
+        MsgKind::Name => b"name",
+        MsgKind::Nonce => b"nonce",
+        MsgKind::Base64 => b"base64",
+        MsgKind::Trailing => b"trailing",
+    }
+}
+
+/// Writes that a message of SCRAM is faulty.
+fn push_scram_message(out: &mut Vec<u8>, fault: MsgFault) -> Result<(), NoMemory>
+    ensures ok { OnOk result
+        (out.new.items ≡ out.old.items ++ (codes "message " ++ scram_text fault)) }
+    ensures err { OnErr result (Extends out.old.items out.new.items) }
+{
+    push_both(out, b"message ", kind_word(fault.kind))?;
+    push_counted(out, b" ", fault.place as u64)?;
     Ok(())
 }
 
@@ -60,7 +89,8 @@ pub(crate) fn push_bad(out: &mut Vec<u8>, bad: BadLine) -> Result<(), NoMemory>
         BadLine::Number(word) => push_counted(out, b"number ", u64::from(word)),
         BadLine::Word(word) => push_counted(out, b"word ", u64::from(word)),
         BadLine::Cred(fault) => push_both(out, b"cred ", cred_word(fault)),
-        BadLine::Plain(fault) => push_message(out, fault),
+        BadLine::Plain(fault) => push_plain_message(out, fault),
+        BadLine::Scram(fault) => push_scram_message(out, fault),
         BadLine::NotBuilt => push_text(out, b"not-built"),
     }
 }

@@ -20,6 +20,8 @@ fn step(verb: &Verb) -> StepWord {
         },
         Verb::Begin { .. } => StepWord::Begin,
         Verb::Plain { .. } => StepWord::Name1,
+        Verb::First { .. } => StepWord::Name1,
+        Verb::Last { .. } => StepWord::Check1,
         Verb::Authorize { .. } => StepWord::Authorize,
         Verb::Succeed { .. } => StepWord::Succeed,
         Verb::Fail { .. } => StepWord::Fail,
@@ -64,7 +66,12 @@ const LINES: &[u8] = b"\
     7 drop-attr main u groups\r\n1 7 1 drop-attr ok\n\
     7 open 4294967295 PLAIN\n1 7 1 open ok\n\
     7 open 1 PLAIN abc\n1 7 1 open ok\n\
+    7 open 1 SCRAM-SHA-1 xyz\n1 7 1 open ok\n\
+    7 open 1 SCRAM-SHA-256\n1 7 1 open ok\n\
     7 plain 1 Ym9iAHVzZXIAcGVuY2ls\n1 7 1 name1 ok\n\
+    7 first 1 n,,n=user,r=fyko+d2lbbFgONRv9qkxdawL\n1 7 1 name1 ok\n\
+    7 first 1 n,,n=a b,r=c\n1 7 1 name1 ok\n\
+    7 final 1 c=biws,r=fyko+d2lbbFgONRv9qkxdawL3rfcNHYJY1ZVvWVs7j,p=v0X8v3Bz2T0CJGbJQyF0X+HI4Ts=\n1 7 1 check1 ok\n\
     7 authorize 1\n1 7 1 authorize ok\n\
     7 succeed 1\n1 7 1 succeed ok\n\
     7 fail 1\n1 7 1 fail ok\n\
@@ -124,9 +131,24 @@ const LINES: &[u8] = b"\
     7 plain 1 \n1 7 1 bad-line message nul 0\n\
     7 plain 1 AABw\n1 7 1 bad-line message empty-name\n\
     7 plain 1 CgB1AHA=\n1 7 1 bad-line message name\n\
+    7 first\n1 7 1 bad-line arity\n\
     7 first 1\n1 7 1 bad-line arity\n\
-    7 first x \n1 7 1 bad-line not-built\n\
-    7 final x c=biws, r=\n1 7 1 bad-line not-built\n\
+    7 first x n,,n=a,r=b\n1 7 1 bad-line number 3\n\
+    7 first 1 \n1 7 1 bad-line message flag 0\n\
+    7 first 1 n\n1 7 1 bad-line message flag 0\n\
+    7 first 1 n,,n=\xFF\n1 7 1 bad-line message text 5\n\
+    7 first 1 p=x,,n=user,r=abc\n1 7 1 bad-line message bound 0\n\
+    7 first 1 n,,m=x,n=user,r=abc\n1 7 1 bad-line message mandatory 3\n\
+    7 first 1 n,,x=user,r=abc\n1 7 1 bad-line message attr 3\n\
+    7 first 1 n,,n=a=2cb,r=abc\n1 7 1 bad-line message escape 6\n\
+    7 first 1 n,,n=,r=abc\n1 7 1 bad-line message name 5\n\
+    7 first 1 n,,n=a,r=\n1 7 1 bad-line message nonce 9\n\
+    7 first 1 n,,n=a,r=b,\n1 7 1 bad-line message trailing 10\n\
+    7 final 1\n1 7 1 bad-line arity\n\
+    7 final x c=biws, r=\n1 7 1 bad-line number 3\n\
+    7 final 1 c=*,r=a,p=eA==\n1 7 1 bad-line message base64 2\n\
+    7 final 1 c=biws,r=a\n1 7 1 bad-line message trailing 10\n\
+    7 final 1 c=biws,r=a,p=eA==,x=y\n1 7 1 bad-line message trailing 17\n\
     7 digest 1 GET /\n1 7 1 bad-line arity\n\
     7 digest x  / \n1 7 1 bad-line not-built\n\
     7 authorize 4294967296\n1 7 1 bad-line number 3\n\
@@ -137,7 +159,7 @@ const LINES: &[u8] = b"\
 #[test]
 fn lines_are_read_or_told_by_their_first_fault(rt: HostRuntime) -> Result<(), Fail> {
     let mut rest = LINES;
-    for row in 0..76 {
+    for row in 0..96 {
         let (line, behind) = cut_at(rest, b'\n');
         let (wanted, behind) = cut_at(behind.unwrap_or(b""), b'\n');
         let told = told(rt.alloc(), line)?;

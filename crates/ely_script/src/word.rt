@@ -118,7 +118,7 @@ impl CacheWord {
     }
 }
 
-/// The word of a mechanism as it is printed.
+/// The word of a mechanism, as it is read and printed.
 pub fn mech_word(mech: Mech) -> &'static [u8]
     ensures { result.now ≡ mech_text mech }
 {

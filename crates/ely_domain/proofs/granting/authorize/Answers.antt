@@ -1,4 +1,4 @@
-use Rattle.std.proofs.Common.{ap, Some, cond, refl, sym, ◌∙◌}
+use Rattle.std.proofs.Common.{ap, ◌∙◌}
 use Rattle.ely_context.specs.Logins.{login_of}
 use Rattle.ely_domain.specs.Contexts.{read_of}
 use Rattle.ely_domain.proofs.Seeing.{others_with, itself_with}

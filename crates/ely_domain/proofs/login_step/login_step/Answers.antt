@@ -1,6 +1,7 @@
 use Rattle.std.proofs.Common.{sym}
 use Rattle.ely_domain.specs.Contexts.{read_of}
 use Rattle.ely_domain.proofs.Moving.{none_answered, found_all, found_cost, moved_stays, kept_both}
+use Rattle.ely_domain.proofs.Working.{brings_found}
 use Rattle.ely_domain.proofs.login_step.login_step.Goals as goal
 
 pub answer_found-requires-clause-sound : goal.answer_found-requires-clause-sound
@@ -8,7 +9,7 @@ answer_found-requires-clause-sound g c = c.requires.sound c.args.id c.in-Some.co
 
 pub returns-in-None-clause-answer : goal.returns-in-None-clause-answer
 returns-in-None-clause-answer g c =
-    rw c.not_there.ensures (none_answered (read_of c.args.config.now c.args.tables.now) c.args.logins.now c.args.event c.args.id c.in-None.ensures.value)
+    rw c.not_there-outcome.ensures (none_answered (read_of c.args.config.now c.args.tables.now) c.args.logins.now c.args.event c.args.id c.in-None.ensures.value)
 
 pub returns-in-Some-clause-answer : goal.returns-in-Some-clause-answer
 returns-in-Some-clause-answer g c =
@@ -29,3 +30,8 @@ pub returns-in-Some-clause-cost : goal.returns-in-Some-clause-cost
 returns-in-Some-clause-cost g c =
     found_cost (read_of c.args.config.now c.args.tables.now) c.args.logins.now c.args.event c.args.id c.in-Some.context.now _ _
     (sym c.in-Some.ensures.value) c.answer_found.ensures.cost
+
+pub returns-in-Some-clause-brought : goal.returns-in-Some-clause-brought
+returns-in-Some-clause-brought g c = λ brought.
+    c.answer_found.ensures.brought
+    (brings_found (read_of c.args.config.now c.args.tables.now) c.args.logins.now c.args.id c.in-Some.context.now c.args.event c.in-Some.ensures.value brought)

@@ -21,5 +21,5 @@ pub returns-clause-ok : goal.returns-clause-ok
 returns-clause-ok c =
     let given : Given = record { config = c.self.inside.config; limit = c.self.inside.tables.limit } in
     rw (← c.self.view_is, c.in_ok-open.ensures.opened, c.begin.ensures)
-    (begun c.self.inside.logins c.args.id given c.self.inside.tables.journal c.self.inside.opened c.args.mech c.args.brought c.nonce_of-nonce.result
-    (c.nonce_of-nonce.ensures given) (sym c.opening_fault.ensures ∙ c.in_default.is))
+    (begun c.self.inside.logins c.args.id given c.self.inside.tables.journal c.self.inside.opened c.args.mech c.args.brought c.in_ok-nonce.nonce
+    (c.in_ok-nonce.ensures given.limit) (sym c.opening_fault.ensures ∙ c.in_default.is))

@@ -1,4 +1,4 @@
-use Rattle.std.proofs.Common.{ap, sym, refl, ◌∙◌}
+use Rattle.std.proofs.Common.{refl, ◌∙◌}
 use Rattle.ely_domain.specs.Contexts.{read_of}
 use Rattle.ely_domain.proofs.Moving.{closed_stays}
 use Rattle.ely_domain.proofs.Opening.{closed_is}

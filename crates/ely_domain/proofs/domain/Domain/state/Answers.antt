@@ -1,4 +1,4 @@
-use Rattle.std.proofs.Common.{Some, None, ap, sym, ◌∙◌}
+use Rattle.std.proofs.Common.{Some, None, ap, ◌∙◌}
 use Rattle.ely_context.specs.Logins.{state_at}
 use Rattle.ely_domain.proofs.Seeing.{state_seen}
 use Rattle.ely_domain.proofs.domain.Domain.state.Goals as goal

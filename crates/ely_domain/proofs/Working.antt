@@ -1,0 +1,216 @@
+-- The jobs of logins: which one a login at a stage has.
+use Rattle.std.proofs.Common.{◌≡◌, ℕ, Bool, true, false, cond, List, Option, Some, None, refl, sym, ap, subst, ◌∙◌}
+use Rattle.std.specs.Prelude.{option_and_then, nat_eq}
+use Rattle.std.specs.Option.{option_map}
+use Rattle.std.proofs.lemmas.Option.{same_Some}
+use Rattle.ely_row.specs.declared.mech.Mech.{Mech}
+use Rattle.ely_script.specs.declared.claim.Evidence.{Evidence}
+use Rattle.ely_cred.specs.Keys.{ready_cost}
+use Rattle.ely_job.specs.declared.job.Work.{Work}
+use Rattle.ely_job.specs.declared.job.Work.TheVariants as works
+use Rattle.ely_job.specs.Dones.{Done}
+use Rattle.ely_context.specs.declared.naming.Naming.{Naming}
+use Rattle.ely_context.specs.declared.pin.Pin.{Pin}
+use Rattle.ely_context.specs.declared.stage.Stage.TheVariants.{Fresh, Loading, Named, Checking, Proved, Authorized, Complete, Failed}
+use Rattle.ely_context.specs.Contexts.{ContextStage, ContextLogin}
+use Rattle.ely_context.specs.Stages.{loading_pin, named_parts, checked_parts}
+use Rattle.ely_context.specs.Logins.{login_of}
+use Rattle.ely_context.proofs.LoginLemmas.{login_of-each_login}
+use Rattle.ely_domain.specs.Contexts.{IsKey, HoldsIts, seen_login, seen_live}
+use Rattle.ely_domain.specs.Costs.{naming_cost}
+use Rattle.ely_domain.specs.declared.event.Event.{Event}
+use Rattle.ely_domain.specs.declared.event.Event.TheVariants as events
+use Rattle.ely_domain.specs.Identities.{Known}
+use Rattle.ely_domain.specs.Jobs.{check_job, job_at, job_with, job_of, IsBrought, BringsTo, Brings}
+use Rattle.ely_domain.specs.Handing.{check1_job, job_by, job_ahead}
+use Rattle.ely_domain.specs.Lines.{carrier}
+use Rattle.ely_domain.specs.Steps.{is_evidence_of}
+use Rattle.ely_domain.specs.Verdicts.{exchange, server_first}
+use Rattle.ely_domain.proofs.Keys.{key_mech}
+
+-- none is not some
+pub not_some : {A : Type 0} → false ≡ true → A
+not_some h = absurd (none h)
+  where
+    none : false ≡ true → ⊥
+    none h = cc
+
+module _ (known : Known) (serial : ℕ) (mech : Mech) (nonce : List ℕ) where
+  abbrev login : ContextStage → ContextLogin
+  login stage = record { serial = serial; mech = mech; nonce = nonce; stage = stage }
+
+  -- the job of a loading login
+  pub loading_job : (stage : ContextStage) (p : Pin) → loading_pin stage ≡ Some p → HoldsIts known mech nonce stage
+      → Some (works.Derive p.place p.row mech known.given.config.params) ≡ job_at known (seen_login (login stage)) (seen_login (login stage)).stage
+  loading_job (Loading q) p is holds = rw (holds.row_is, same_Some _ _ is) refl
+  loading_job Fresh p is holds = absurd cc
+  loading_job (Named q key) p is holds = absurd cc
+  loading_job (Checking q key evidence) p is holds = absurd cc
+  loading_job (Proved q) p is holds = absurd cc
+  loading_job (Authorized q) p is holds = absurd cc
+  loading_job (Complete q) p is holds = absurd cc
+  loading_job Failed p is holds = absurd cc
+
+  -- the job of a checked login
+  pub checking_job : (stage : ContextStage) (p : Pin) (key : Naming) (evidence : Evidence) → checked_parts stage ≡ Some (p, key, evidence)
+      → HoldsIts known mech nonce stage
+      → check_job (exchange known.given nonce p.claim) key.ready evidence ≡ job_at known (seen_login (login stage)) (seen_login (login stage)).stage
+  checking_job (Checking q own shown) p key evidence is holds =
+      let all = same_Some _ _ is in
+      let pins : q ≡ p = ap (λ (x : Pin × Naming × Evidence). x.0) all in
+      let keys : own ≡ key = ap (λ (x : Pin × Naming × Evidence). x.1) all in
+      let shows : shown ≡ evidence = ap (λ (x : Pin × Naming × Evidence). x.2) all in
+      rw (holds.1.ready_is, pins, keys, shows) refl
+  checking_job Fresh p key evidence is holds = absurd cc
+  checking_job (Loading q) p key evidence is holds = absurd cc
+  checking_job (Named q own) p key evidence is holds = absurd cc
+  checking_job (Proved q) p key evidence is holds = absurd cc
+  checking_job (Authorized q) p key evidence is holds = absurd cc
+  checking_job (Complete q) p key evidence is holds = absurd cc
+  checking_job Failed p key evidence is holds = absurd cc
+
+  -- any other login has none
+  pub no_job : (stage : ContextStage) → loading_pin stage ≡ None → checked_parts stage ≡ None
+      → None ≡ job_at known (seen_login (login stage)) (seen_login (login stage)).stage
+  no_job Fresh h g = refl
+  no_job (Loading q) h g = absurd cc
+  no_job (Named q key) h g = refl
+  no_job (Checking q key evidence) h g = absurd cc
+  no_job (Proved q) h g = refl
+  no_job (Authorized q) h g = refl
+  no_job (Complete q) h g = refl
+  no_job Failed h g = refl
+
+  -- and what is brought for it is of that job
+  pub brought_to_loading : (stage : ContextStage) (p : Pin) (brought : Option Done) → loading_pin stage ≡ Some p → HoldsIts known mech nonce stage
+      → IsBrought brought (job_at known (seen_login (login stage)) (seen_login (login stage)).stage)
+      → IsBrought brought (Some (works.Derive p.place p.row mech known.given.config.params))
+  brought_to_loading stage p brought is holds b = subst (IsBrought brought) (sym (loading_job stage p is holds)) b
+
+  pub brought_to_checking : (stage : ContextStage) (p : Pin) (key : Naming) (evidence : Evidence) (brought : Option Done)
+      → checked_parts stage ≡ Some (p, key, evidence) → HoldsIts known mech nonce stage
+      → IsBrought brought (job_at known (seen_login (login stage)) (seen_login (login stage)).stage)
+      → IsBrought brought (check_job (exchange known.given nonce p.claim) key.ready evidence)
+  brought_to_checking stage p key evidence brought is holds b = subst (IsBrought brought) (sym (checking_job stage p key evidence is holds)) b
+
+  -- the key of a named login is of its mechanism, with the server's first message for it, and what is shown is judged by it
+  named_holds : (P : Pin → Naming → Type 0) (stage : ContextStage) (p : Pin) (key : Naming) → named_parts stage ≡ Some (p, key)
+      → HoldsIts known mech nonce stage → ((q : Pin) (own : Naming) → IsKey known mech nonce q own → P q own) → P p key
+  named_holds P (Named q own) p key is holds give =
+      let both = same_Some _ _ is in
+      subst (λ (x : Pin × Naming). P x.0 x.1) both (give q own holds.1)
+  named_holds P Fresh p key is holds give = absurd cc
+  named_holds P (Loading q) p key is holds give = absurd cc
+  named_holds P (Checking q own evidence) p key is holds give = absurd cc
+  named_holds P (Proved q) p key is holds give = absurd cc
+  named_holds P (Authorized q) p key is holds give = absurd cc
+  named_holds P (Complete q) p key is holds give = absurd cc
+  named_holds P Failed p key is holds give = absurd cc
+
+  pub named_mech : (stage : ContextStage) (p : Pin) (key : Naming) → named_parts stage ≡ Some (p, key) → HoldsIts known mech nonce stage
+      → key.ready.mech ≡ mech
+  named_mech stage p key is holds =
+      named_holds (λ q own. own.ready.mech ≡ mech) stage p key is holds
+      (λ q own is_key. key_mech known mech q.version q.place own.ready is_key.ready_is)
+
+  pub named_text : (stage : ContextStage) (p : Pin) (key : Naming) → named_parts stage ≡ Some (p, key) → HoldsIts known mech nonce stage
+      → key.server_first ≡ server_first (exchange known.given nonce p.claim) key.ready
+  named_text stage p key is holds =
+      named_holds (λ q own. own.server_first ≡ server_first (exchange known.given nonce q.claim) own.ready) stage p key is holds
+      (λ q own is_key. is_key.first_is)
+
+  pub named_job : (stage : ContextStage) (p : Pin) (key : Naming) (evidence : Evidence) → named_parts stage ≡ Some (p, key)
+      → HoldsIts known mech nonce stage → is_evidence_of mech evidence ≡ true
+      → check_job (exchange known.given nonce p.claim) key.ready evidence ≡ check1_job known (seen_login (login stage)) evidence (seen_login (login stage)).stage
+  named_job (Named q own) p key evidence is holds form =
+      let both = same_Some _ _ is in
+      let pins : q ≡ p = ap (λ (x : Pin × Naming). x.0) both in
+      let keys : own ≡ key = ap (λ (x : Pin × Naming). x.1) both in
+      rw (form, holds.1.ready_is, pins, keys) refl
+  named_job Fresh p key evidence is holds form = absurd cc
+  named_job (Loading q) p key evidence is holds form = absurd cc
+  named_job (Checking q own shown) p key evidence is holds form = absurd cc
+  named_job (Proved q) p key evidence is holds form = absurd cc
+  named_job (Authorized q) p key evidence is holds form = absurd cc
+  named_job (Complete q) p key evidence is holds form = absurd cc
+  named_job Failed p key evidence is holds form = absurd cc
+
+  -- what its key takes
+  pub loading_cost : (stage : ContextStage) (p : Pin) → loading_pin stage ≡ Some p → HoldsIts known mech nonce stage
+      → naming_cost known (seen_login (login stage)) (seen_login (login stage)).stage ≡ ready_cost known.given.config.params mech p.row
+  loading_cost (Loading q) p is holds = rw (holds.row_is, same_Some _ _ is) refl
+  loading_cost Fresh p is holds = absurd cc
+  loading_cost (Named q key) p is holds = absurd cc
+  loading_cost (Checking q key evidence) p is holds = absurd cc
+  loading_cost (Proved q) p is holds = absurd cc
+  loading_cost (Authorized q) p is holds = absurd cc
+  loading_cost (Complete q) p is holds = absurd cc
+  loading_cost Failed p is holds = absurd cc
+
+-- the job of a login that was found, with this serial or with another, and of none
+module _ (known : Known) (logins : List (ℕ × ContextLogin)) (id serial : ℕ) where
+  found_job : (login : ContextLogin) → Some login ≡ login_of logins id
+      → job_of known (seen_live logins) id serial ≡ job_with known serial (seen_login login)
+  unfolding job_of
+  found_job login found =
+      ap (option_and_then (job_with known serial)) (login_of-each_login seen_login logins id ∙ ap (option_map seen_login) (sym found))
+
+  pub same_job : (login : ContextLogin) → Some login ≡ login_of logins id → nat_eq login.serial serial ≡ true
+      → job_of known (seen_live logins) id serial ≡ job_at known (seen_login login) (seen_login login).stage
+  same_job login found same = found_job login found ∙ rw same refl
+
+  pub other_job : (login : ContextLogin) → Some login ≡ login_of logins id → nat_eq login.serial serial ≡ false
+      → None ≡ job_of known (seen_live logins) id serial
+  other_job login found other = sym (found_job login found ∙ rw other refl)
+
+  pub absent_job : None ≡ login_of logins id → None ≡ job_of known (seen_live logins) id serial
+  unfolding job_of
+  absent_job none =
+      sym (ap (option_and_then (job_with known serial)) (login_of-each_login seen_login logins id ∙ ap (option_map seen_login) (sym none)))
+
+-- what is brought for the login with an id is brought to it
+module _ (known : Known) (logins : List (ℕ × ContextLogin)) (id : ℕ) where
+  pub brings_found : (login : ContextLogin) (event : Event) → Some login ≡ login_of logins id
+      → Brings known (seen_live logins) id event → BringsTo known (seen_login login) event
+  unfolding job_of
+  brings_found login event found b = by event b
+    where
+      by_serial : (brought : Option Done) (same : Bool) (job : Option Work) → IsBrought brought (cond same job None) → IsBrought brought job
+      by_serial brought true job b = b
+      by_serial brought false job b = absurd (none b.0.job b.2)
+        where
+          none : (job : Work) → ◌≡◌ {A = Option Work} (Some job) None → ⊥
+          none job h = cc
+
+      by_job : (n : ℕ) (brought : Option Done) → IsBrought brought (job_of known (seen_live logins) id n)
+          → IsBrought brought (job_at known (seen_login login) (seen_login login).stage)
+      by_job n brought b = by_serial brought (nat_eq login.serial n) _ (rw (job_of_login n) at b)
+        where
+          job_of_login : (n : ℕ) → job_of known (seen_live logins) id n ≡ job_with known n (seen_login login)
+          job_of_login n = ap (option_and_then (job_with known n)) (login_of-each_login seen_login logins id ∙ ap (option_map seen_login) (sym found))
+
+      by : (event : Event) → Brings known (seen_live logins) id event → BringsTo known (seen_login login) event
+      by (events.Name2 c n brought) b = by_job n brought b
+      by (events.Check2 c n brought) b = by_job n brought b
+      by (events.Bad bad) b = b
+      by (events.Change edit) b = b
+      by (events.Begin c mech brought) b = b
+      by (events.Name1 c claim) b = b
+      by (events.Check1 c n evidence) b = b
+      by (events.Authorize c) b = b
+      by (events.Allows c wanted) b = b
+      by (events.Succeed c) b = b
+      by (events.Fail c) b = b
+      by (events.Close c) b = b
+
+  -- the job that a login is told to hand out
+  pub ahead_none : (event : Event) → Some id ≡ carrier event → None ≡ login_of logins id → None ≡ job_ahead known (seen_live logins) event
+  ahead_none event is none =
+      sym (ap (option_and_then (λ c. option_and_then (job_by known event) (login_of (seen_live logins).logins c))) (sym is)
+      ∙ ap (option_and_then (job_by known event)) (login_of-each_login seen_login logins id ∙ ap (option_map seen_login) (sym none)))
+
+  pub ahead_found : (event : Event) (login : ContextLogin) → Some id ≡ carrier event → Some login ≡ login_of logins id
+      → job_by known event (seen_login login) ≡ job_ahead known (seen_live logins) event
+  ahead_found event login is found =
+      sym (ap (option_and_then (λ c. option_and_then (job_by known event) (login_of (seen_live logins).logins c))) (sym is)
+      ∙ ap (option_and_then (job_by known event)) (login_of-each_login seen_login logins id ∙ ap (option_map seen_login) (sym found)))

@@ -1,0 +1,23 @@
+use Rattle.std.proofs.Common.{sym}
+use Rattle.ely_domain.specs.Contexts.{read_of}
+use Rattle.ely_domain.proofs.Sounds.{evidence_fits, message_fits}
+use Rattle.ely_domain.proofs.Working.{checking_job}
+use Rattle.ely_domain.proofs.jobs.job_at.Goals as goal
+
+pub check_job-requires : goal.check_job-requires
+check_job-requires c =
+    let login = c.args.context.now in
+    evidence_fits (read_of c.args.config.now c.args.tables.now) login.serial login.mech login.nonce login.stage
+    c.in-Some-checking.pin.now c.in-Some-checking.naming.now c.in-Some-checking.evidence.now c.requires (sym c.in-Some-checking.ensures)
+
+pub returns-in-Some-checking : goal.returns-in-Some-checking
+returns-in-Some-checking c =
+    let login = c.args.context.now in
+    let known = read_of c.args.config.now c.args.tables.now in
+    let pin = c.in-Some-checking.pin.now in
+    let key = c.in-Some-checking.naming.now in
+    let evidence = c.in-Some-checking.evidence.now in
+    let parts = sym c.in-Some-checking.ensures in
+    let text = message_fits known login.serial login.mech login.nonce login.stage pin key evidence c.requires parts in
+    rw (c.nonce.ensures, checking_job known login.serial login.mech login.nonce login.stage pin key evidence parts c.requires)
+    at (c.check_job.ensures known.given (rw c.nonce.ensures text))

@@ -1,0 +1,261 @@
+//! The jobs of logins: what can be done off the domain.
+
+ghost use Rattle.std.specs.Prelude.{◌≡◌, true, IfOk, IsOk, IsSome, IsTrue};
+ghost use Rattle.ely_cred.specs.Keys.{chosen};
+ghost use Rattle.ely_domain.specs.Contexts.{HoldsIts, HoldTheirs, read_of, seen_live, seen_login};
+ghost use Rattle.ely_domain.specs.Domains.{TakesNoMemory};
+ghost use Rattle.ely_domain.specs.Given.{Given};
+ghost use Rattle.ely_domain.specs.Handing.{name1_job, check1_job, job_by, job_ahead};
+ghost use Rattle.ely_domain.specs.Jobs.{message_job, check_job, job_at, job_of};
+ghost use Rattle.ely_domain.specs.Steps.{is_evidence_of};
+ghost use Rattle.ely_domain.specs.Verdicts.{exchange, server_first};
+ghost use Rattle.ely_job.specs.Jobs.{is_scram};
+ghost use Rattle.ely_job.specs.declared.job.Work.TheVariants as works;
+
+use crate::checking::is_evidence_of;
+use crate::event::Event;
+use crate::naming::found_place;
+use ely_base::{Bytes, CtxId, NoMemory, Serial};
+use ely_config::Config;
+use ely_context::{Context, Logins, Naming, Pin};
+use ely_cred::Ready;
+use ely_job::Job;
+use ely_row::Mech;
+use ely_scram_msg::{ClientFirst, ClientLast};
+use ely_script::{Claim, Evidence, StateWord};
+use ely_table::Tables;
+use std::alloc::Global;
+
+/// The job of a loading login: the key of what it pinned.
+fn derive_job(alloc: Global, config: &Config, pin: &Pin, mech: Mech) -> Result<Job, NoMemory>
+    requires { IsSome (chosen mech pin.now.row) }
+    ensures { IfOk result (λ job. job
+        ≡ works.Derive pin.now.place pin.now.row mech config.now.params) }
+{
+    let place = pin.place.copy(alloc)?;
+    let row = pin.row.share()?;
+    let params = config.params.copy(alloc)?;
+    Ok(Job::derive(place, row, mech, params))
+}
+
+/// The judgement of a password.
+fn guess_job(alloc: Global, ready: &Ready, password: &Bytes) -> Result<Job, NoMemory>
+    requires { ready.now.mech ≡ Mech.Plain }
+    ensures { IfOk result (λ job. job ≡ works.Guess ready.now password.now) }
+{
+    let ready = ready.copy(alloc)?;
+    let password = password.copy(alloc)?;
+    Ok(Job::guess(ready, password))
+}
+
+/// The judgement of a login's last message of SCRAM.
+fn scram_job(
+    alloc: Global,
+    ready: &Ready,
+    first: &ClientFirst,
+    nonce: &Bytes,
+    server_first: &Bytes,
+    last: &ClientLast,
+) -> Result<Job, NoMemory>
+    requires { IsTrue (is_scram ready.now.mech) }
+    ensures { IfOk result (λ job. job
+        ≡ works.Scram ready.now first.now nonce.now server_first.now last.now) }
+{
+    let ready = ready.copy(alloc)?;
+    let first = first.copy(alloc)?;
+    let nonce = nonce.copy(alloc)?;
+    let server_first = server_first.copy(alloc)?;
+    let last = last.copy(alloc)?;
+    Ok(Job::scram(ready, first, nonce, server_first, last))
+}
+
+/// The judgement of SCRAM's last message, where its claim and the server's first message are SCRAM's.
+fn message_job(
+    alloc: Global,
+    ready: &Ready,
+    nonce: &Bytes,
+    claim: &Claim,
+    server_first: &Option<Bytes>,
+    last: &ClientLast,
+) -> Result<Option<Job>, NoMemory>
+    requires { IsTrue (is_scram ready.now.mech) }
+    ensures { IfOk result (λ job. job
+        ≡ message_job claim.now nonce.now ready.now server_first.now last.now) }
+{
+    match (claim, server_first) {
+        (Claim::Scram(first), Some(text)) => {
+            let job = scram_job(alloc, ready, first, nonce, text, last)?;
+            Ok(Some(job))
+        }
+        _ => Ok(None),
+    }
+}
+
+/// The job of a checked login: the verdict on what it showed.
+fn check_job(
+    alloc: Global,
+    naming: &Naming,
+    nonce: &Bytes,
+    claim: &Claim,
+    evidence: &Evidence,
+) -> Result<Option<Job>, NoMemory>
+    requires { is_evidence_of naming.now.ready.mech evidence.now ≡ true }
+    ensures { (given : Given)
+        → naming.now.server_first ≡ server_first (exchange given nonce.now claim.now) naming.now.ready
+        → IfOk result (λ job. job
+        ≡ check_job (exchange given nonce.now claim.now) naming.now.ready evidence.now) }
+{
+    match evidence {
+        Evidence::Plain { password } => Ok(Some(guess_job(alloc, &naming.ready, password)?)),
+        Evidence::Scram(last) => {
+            message_job(
+                alloc,
+                &naming.ready,
+                nonce,
+                claim,
+                &naming.server_first,
+                last,
+            )
+        }
+    }
+}
+
+/// The job of a login, where it is loading or checked.
+fn job_at(
+    alloc: Global,
+    config: &Config,
+    tables: &Tables,
+    context: &Context,
+) -> Result<Option<Job>, NoMemory>
+    requires { HoldsIts (read_of config.now tables.now)
+        context.now.mech context.now.nonce context.now.stage }
+    ensures { IfOk result (λ job. job ≡ job_at (read_of config.now tables.now)
+        (seen_login context.now) (seen_login context.now).stage) }
+{
+    if let Some(pin) = context.loading() {
+        let job = derive_job(alloc, config, pin, context.mech())?;
+        return Ok(Some(job));
+    }
+    match context.checking() {
+        None => Ok(None),
+        Some((pin, naming, evidence)) => {
+            check_job(alloc, naming, context.nonce(), &pin.claim, evidence)
+        }
+    }
+}
+
+/// The job of the login with this id and this serial, where it is loading or checked.
+pub(crate) fn job_of(
+    alloc: Global,
+    config: &Config,
+    tables: &Tables,
+    logins: &Logins,
+    id: CtxId,
+    serial: Serial,
+) -> Result<Option<Job>, NoMemory>
+    requires { HoldTheirs (read_of config.now tables.now) logins.now }
+    ensures { IfOk result (λ job. job
+        ≡ job_of (read_of config.now tables.now) (seen_live logins.now) id serial) }
+{
+    match logins.find(id) {
+        None => Ok(None),
+        Some(context) => {
+            if context.serial() == serial {
+                job_at(alloc, config, tables, context)
+            } else {
+                Ok(None)
+            }
+        }
+    }
+}
+
+/// The job of a fresh login behind its naming, if that is accepted.
+fn name1_job(
+    alloc: Global,
+    config: &Config,
+    tables: &Tables,
+    context: &Context,
+    claim: &Claim,
+) -> Result<Option<Job>, NoMemory>
+    ensures { IfOk result (λ job. job ≡ name1_job (read_of config.now tables.now)
+        (seen_login context.now) claim.now (seen_login context.now).stage) }
+{
+    let StateWord::Fresh = context.state() else {
+        return Ok(None);
+    };
+    let params = config.params.copy(alloc)?;
+    match found_place(alloc, config, tables, context.mech(), claim)? {
+        Ok(found) => Ok(Some(Job::derive(found.place, found.row, context.mech(), params))),
+        Err(_) => Ok(None),
+    }
+}
+
+/// The job of a named login behind what it shows, if that is accepted.
+fn check1_job(
+    alloc: Global,
+    config: &Config,
+    tables: &Tables,
+    context: &Context,
+    evidence: &Evidence,
+) -> Result<Option<Job>, NoMemory>
+    requires { HoldsIts (read_of config.now tables.now)
+        context.now.mech context.now.nonce context.now.stage }
+    ensures { IfOk result (λ job. job ≡ check1_job (read_of config.now tables.now)
+        (seen_login context.now) evidence.now (seen_login context.now).stage) }
+{
+    let Some((pin, naming)) = context.named() else {
+        return Ok(None);
+    };
+    if !is_evidence_of(context.mech(), evidence) {
+        return Ok(None);
+    }
+    check_job(alloc, naming, context.nonce(), &pin.claim, evidence)
+}
+
+/// The job of a login behind a step of it, if that is accepted.
+fn job_by(
+    alloc: Global,
+    config: &Config,
+    tables: &Tables,
+    context: &Context,
+    event: &Event,
+) -> Result<Option<Job>, NoMemory>
+    requires { HoldsIts (read_of config.now tables.now)
+        context.now.mech context.now.nonce context.now.stage }
+    ensures { IfOk result (λ job. job
+        ≡ job_by (read_of config.now tables.now) event.now (seen_login context.now)) }
+{
+    match event {
+        Event::Name1 { claim, .. } => name1_job(alloc, config, tables, context, claim),
+        Event::Check1 { evidence, .. } => {
+            if event.is_carried(context.serial()) {
+                check1_job(alloc, config, tables, context, evidence)
+            } else {
+                Ok(None)
+            }
+        }
+        _ => Ok(None),
+    }
+}
+
+/// The job that a step will hand out.
+pub(crate) fn job_ahead(
+    alloc: Global,
+    config: &Config,
+    tables: &Tables,
+    logins: &Logins,
+    event: &Event,
+) -> Result<Option<Job>, NoMemory>
+    requires { HoldTheirs (read_of config.now tables.now) logins.now }
+    ensures job { IfOk result (λ job. job
+        ≡ job_ahead (read_of config.now tables.now) (seen_live logins.now) event.now) }
+    ensures takes_no_memory { TakesNoMemory event.now → IsOk result }
+{
+    let Some(id) = event.carrier() else {
+        return Ok(None);
+    };
+    match logins.find(id) {
+        None => Ok(None),
+        Some(context) => job_by(alloc, config, tables, context, event),
+    }
+}

@@ -1,0 +1,2 @@
+pub mod ScramKeys
+pub mod ScramCosts
