@@ -1,37 +1,14 @@
-//! The configuration of a domain: how keys are derived of clear passwords. It stands on `ely_row`, and grows with what a
-//! domain can be told.
+//! The configuration of a domain: the realm that Digest announces, how keys are derived of clear passwords, and the realms with
+//! their texts. What a configuration has to keep stands in its type. It stands on `ely_propfile`, `ely_row` and `ely_base`.
 #![tactic(auto)]
 
-ghost use Rattle.std.specs.Prelude.{◌≡◌, IfOk};
-ghost use Rattle.ely_config.specs.Configs.{plain_config};
+mod config;
+mod fault;
+mod realm;
 
-use ely_base::NoMemory;
-use ely_row::Params;
-use std::alloc::Global;
+pub use config::Config;
+pub use fault::{ConfigFault, RealmFault};
+pub use realm::{RealmConfig, RealmKind};
 
-/// What a domain is told.
-#[derive(Debug, Drop)]
-pub struct Config {
-    /// How keys are derived of clear passwords.
-    pub params: Params,
-}
-
-impl Config {
-    /// What holds where nothing is said: 4,096 turns, derived salts and an empty seed.
-    pub fn plain(alloc: Global) -> Result<Config, NoMemory>
-        ensures { IfOk result (λ config. config ≡ plain_config) }
-    {
-        Ok(Config {
-            params: Params::plain(alloc),
-        })
-    }
-
-    /// An equal configuration.
-    pub fn copy(&self, alloc: Global) -> Result<Config, NoMemory>
-        ensures { IfOk result (λ copy. copy ≡ self.now) }
-    {
-        Ok(Config {
-            params: self.params.copy(alloc)?,
-        })
-    }
-}
+#[cfg(test)]
+mod tests;

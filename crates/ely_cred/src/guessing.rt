@@ -26,13 +26,7 @@ fn proves_salted<H: HashAlg, L: Ledger>(
 fn proves_hashed<H: HashAlg>(ha1: &Ha1, name: &Name, password: &[u8]) -> bool
     ensures { result ≡ proves_hashed H.hash ha1.now name.now password.now }
 {
-    let mut hash = H::start();
-    hash.add(name.bytes());
-    hash.add(b":");
-    hash.add(ha1.realm().bytes());
-    hash.add(b":");
-    hash.add(password);
-    let guessed = hash.end();
+    let guessed = ely_hash::ha1::<H>(name.bytes(), ha1.realm().bytes(), password);
     guessed.bytes() == ha1.hash().bytes()
 }
 

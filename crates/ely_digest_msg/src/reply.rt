@@ -1,6 +1,6 @@
 //! Headers that are kept beyond the text that they came from.
 
-ghost use Rattle.std.specs.Prelude.{◌≡◌, IfOk};
+ghost use Rattle.std.specs.Prelude.{◌≡◌, ◌↔◌, IsTrue, IfOk};
 ghost use Rattle.ely_base.specs.Refused.{Gives};
 ghost use Rattle.ely_digest_msg.specs.Replies.{reply_from, reply_of};
 
@@ -58,6 +58,20 @@ impl DigestReply {
             nc: self.nc,
             cnonce: self.cnonce.copy(alloc)?,
         })
+    }
+
+    /// Whether both are equal.
+    pub fn same(&self, other: &DigestReply) -> bool
+        ensures { IsTrue result ↔ (self.now ≡ other.now) }
+    {
+        self.alg == other.alg
+            && self.nc == other.nc
+            && self.name.bytes() == other.name.bytes()
+            && self.realm.bytes() == other.realm.bytes()
+            && self.nonce.bytes() == other.nonce.bytes()
+            && self.uri.bytes() == other.uri.bytes()
+            && self.response.bytes() == other.response.bytes()
+            && self.cnonce.bytes() == other.cnonce.bytes()
     }
 }
 

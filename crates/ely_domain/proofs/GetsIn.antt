@@ -30,13 +30,13 @@ use Rattle.ely_domain.proofs.Tracking.{Fits, FitsStage, HoldsSaid, IsTracked, op
 module _ (P : Outcome → Type 0) (k : Known) (live : Live) (event : Event) (c : ℕ) where
   by_answer : ((login : KnownLogin) → login_of live.logins c ≡ Some login → P (not_due event (state_of login.stage)))
       → P (not_there event) → ((n : ℕ) → carried event ≡ Some n → P outcomes.Gone)
-      → ((login : KnownLogin) → login_of live.logins c ≡ Some login → (outcome : Outcome) → reply k login event ≡ Stays outcome → P outcome)
-      → ((login : KnownLogin) → login_of live.logins c ≡ Some login → (outcome : Outcome) (stage : KnownStage) → reply k login event ≡ Moves outcome stage → P outcome)
+      → ((login : KnownLogin) → login_of live.logins c ≡ Some login → (outcome : Outcome) → reply k live.nonces login event ≡ Stays outcome → P outcome)
+      → ((login : KnownLogin) → login_of live.logins c ≡ Some login → (outcome : Outcome) (stage : KnownStage) → reply k live.nonces login event ≡ Moves outcome stage → P outcome)
       → P (answered k live event c).outcome
   unfolding answered
   by_answer late absent gone stays moves = by_found (login_of live.logins c) refl
     where
-      by_reply : (login : KnownLogin) → login_of live.logins c ≡ Some login → (r : Reply) → reply k login event ≡ r
+      by_reply : (login : KnownLogin) → login_of live.logins c ≡ Some login → (r : Reply) → reply k live.nonces login event ≡ r
           → P (carried_out live event c login r).outcome
       by_reply login is NotDue e = late login is
       by_reply login is (Stays outcome) e = stays login is outcome e
@@ -47,13 +47,13 @@ module _ (P : Outcome → Type 0) (k : Known) (live : Live) (event : Event) (c :
       by_found (Some login) is = by (carried event) refl
         where
           by_test : (n : ℕ) → carried event ≡ Some n → (b : Bool)
-              → P (cond {A = Answered} b (carried_out live event c login (reply k login event)) (record { outcome = outcomes.Gone; live = live })).outcome
-          by_test n e true = by_reply login is (reply k login event) refl
+              → P (cond {A = Answered} b (carried_out live event c login (reply k live.nonces login event)) (record { outcome = outcomes.Gone; live = live })).outcome
+          by_test n e true = by_reply login is (reply k live.nonces login event) refl
           by_test n e false = gone n e
 
           by : (o : Option ℕ) → carried event ≡ o
-              → P (cond {A = Answered} (is_carried o login.serial) (carried_out live event c login (reply k login event)) (record { outcome = outcomes.Gone; live = live })).outcome
-          by None e = by_reply login is (reply k login event) refl
+              → P (cond {A = Answered} (is_carried o login.serial) (carried_out live event c login (reply k live.nonces login event)) (record { outcome = outcomes.Gone; live = live })).outcome
+          by None e = by_reply login is (reply k live.nonces login event) refl
           by (Some n) e = by_test n e (eqb login.serial n)
 
 module _ (k : Known) (live : Live) (c : ℕ) (rest : Option (List StepWord)) (said : Said) (tracked : IsTracked k (login_of live.logins c) rest said) where
@@ -282,20 +282,22 @@ module _ (k : Known) (live : Live) (c : ℕ) (claim : Claim) where
 
 -- the word of an edit is none of a login's
 edit_is_none : {A : Type 0} (edit : Edit) (w : StepWord) → edit_word edit ≡ w
-    → (words.Add ≡ w → A) → (words.Remove ≡ w → A) → (words.SetCred ≡ w → A) → (words.DropCred ≡ w → A) → (words.SetAttr ≡ w → A) → (words.DropAttr ≡ w → A) → A
-edit_is_none (edits.Add realm name) w h a b c d e f = a h
-edit_is_none (edits.Remove realm name) w h a b c d e f = b h
-edit_is_none (edits.SetCred realm name slot cred) w h a b c d e f = c h
-edit_is_none (edits.DropCred realm name slot) w h a b c d e f = d h
-edit_is_none (edits.SetAttr realm name attr values) w h a b c d e f = e h
-edit_is_none (edits.DropAttr realm name attr) w h a b c d e f = f h
+    → (words.Add ≡ w → A) → (words.Remove ≡ w → A) → (words.SetCred ≡ w → A) → (words.DropCred ≡ w → A) → (words.SetAttr ≡ w → A) → (words.DropAttr ≡ w → A)
+    → (words.Reload ≡ w → A) → A
+edit_is_none (edits.Add realm name) w h a b c d e f g = a h
+edit_is_none (edits.Remove realm name) w h a b c d e f g = b h
+edit_is_none (edits.SetCred realm name slot cred) w h a b c d e f g = c h
+edit_is_none (edits.DropCred realm name slot) w h a b c d e f g = d h
+edit_is_none (edits.SetAttr realm name attr values) w h a b c d e f g = e h
+edit_is_none (edits.DropAttr realm name attr) w h a b c d e f g = f h
+edit_is_none (edits.Reload realm users groups) w h a b c d e f g = g h
 
 module _ (given : Given) (m : Machine) (c : ℕ) (rest : Option (List StepWord)) (said : Said) (tracked : IsTrackedIn given m c rest said) where
   check2_at : (event : Event) → word_of event ≡ words.Check2 → is_on c event ≡ true
       → (let o = (step given m event).0 in is_gone o ≡ false → is_accepted o ≡ has_shown (known given m) said)
   unfolding step
   check2_at (events.Check2 d n brought) word on = rw (eqb-true d c on) (proved_where_shown (known given m) m.live c rest said tracked n brought)
-  check2_at (events.Change edit) word on = edit_is_none edit words.Check2 word (λ h. cc) (λ h. cc) (λ h. cc) (λ h. cc) (λ h. cc) (λ h. cc)
+  check2_at (events.Change edit) word on = edit_is_none edit words.Check2 word (λ h. cc) (λ h. cc) (λ h. cc) (λ h. cc) (λ h. cc) (λ h. cc) (λ h. cc)
   check2_at (events.Bad bad) word on = cc
   check2_at (events.Begin d mech brought) word on = cc
   check2_at (events.Name1 d claim) word on = cc
@@ -311,7 +313,7 @@ module _ (given : Given) (m : Machine) (c : ℕ) (rest : Option (List StepWord))
       → (let o = (step given m event).0 in is_state o ≡ false → is_accepted o ≡ is_granted (known given m) said.pin to_log_in)
   unfolding step
   authorize_at (events.Authorize d) word on = rw (eqb-true d c on) (authorized_where_granted (known given m) m.live c rest said tracked)
-  authorize_at (events.Change edit) word on = edit_is_none edit words.Authorize word (λ h. cc) (λ h. cc) (λ h. cc) (λ h. cc) (λ h. cc) (λ h. cc)
+  authorize_at (events.Change edit) word on = edit_is_none edit words.Authorize word (λ h. cc) (λ h. cc) (λ h. cc) (λ h. cc) (λ h. cc) (λ h. cc) (λ h. cc)
   authorize_at (events.Bad bad) word on = cc
   authorize_at (events.Begin d mech brought) word on = cc
   authorize_at (events.Name1 d claim) word on = cc
@@ -328,7 +330,7 @@ module _ (given : Given) (m : Machine) (c : ℕ) (rest : Option (List StepWord))
   unfolding step
   succeed_at (events.Succeed d) word on =
       rw (eqb-true d c on) (established_where_ready (known given m) m.live c rest said tracked, has_right (known given m) m.live c rest said tracked)
-  succeed_at (events.Change edit) word on = edit_is_none edit words.Succeed word (λ h. cc) (λ h. cc) (λ h. cc) (λ h. cc) (λ h. cc) (λ h. cc)
+  succeed_at (events.Change edit) word on = edit_is_none edit words.Succeed word (λ h. cc) (λ h. cc) (λ h. cc) (λ h. cc) (λ h. cc) (λ h. cc) (λ h. cc)
   succeed_at (events.Bad bad) word on = cc
   succeed_at (events.Begin d mech brought) word on = cc
   succeed_at (events.Name1 d claim) word on = cc

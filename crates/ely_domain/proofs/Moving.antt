@@ -9,66 +9,79 @@ use Rattle.ely_context.specs.Contexts.{ContextLogin}
 use Rattle.ely_context.specs.Logins.{login_of, with_login, without_login, each_login, AreRising}
 use Rattle.ely_context.proofs.LoginLemmas.{login_of-each_login, login_of-with_login, login_of-without_login, with_login-each_login, with_login-same}
 use Rattle.ely_context.proofs.StageLemmas.{state-view}
+use Rattle.ely_context.specs.Stages.{state_of}
 use Rattle.ely_domain.specs.declared.event.Event.{Event}
 use Rattle.ely_domain.specs.declared.prepared.Prepared.{Prepared}
 use Rattle.ely_domain.specs.Contexts.{pinned, seen_login, seen_live, IsSound, IsSoundAt, IsReply, Answers, AnswersBy}
 use Rattle.ely_domain.specs.Costs.{cost_for, login_cost, RoseBy}
 use Rattle.ely_domain.specs.Identities.{Known}
 use Rattle.ely_domain.specs.Machine.{Answered, answered, answered_for, carried_out}
-use Rattle.ely_domain.specs.Steps.{Reply, NotDue, Stays, Moves, reply, carried, is_carried, not_due, not_there}
+use Rattle.ely_digest.specs.Nonces.{Nonces}
+use Rattle.ely_domain.specs.Steps.{Reply, NotDue, Stays, Moves, reply, used_by, carried, is_carried, not_due, not_there}
+use Rattle.ely_domain.proofs.Using.{not_due_uses, gone_uses, stays_uses}
 
-module _ (known : Known) (logins : List (ℕ × ContextLogin)) (event : Event) (id : ℕ) where
+module _ (known : Known) (logins : List (ℕ × ContextLogin)) (nonces : Nonces) (event : Event) (id : ℕ) where
   -- a step of a login that isn't there
   pub none_answered : None ≡ login_of logins id
-      → answered known (seen_live logins) event id ≡ record { outcome = not_there event; live = seen_live logins }
+      → answered known (seen_live logins nonces) event id ≡ record { outcome = not_there event; live = seen_live logins nonces }
   unfolding answered
   none_answered none =
-      ap (answered_for known (seen_live logins) event id) (login_of-each_login seen_login logins id ∙ ap (option_map seen_login) (sym none))
+      ap (answered_for known (seen_live logins nonces) event id) (login_of-each_login seen_login logins id ∙ ap (option_map seen_login) (sym none))
 
   -- the list where the login is put that a step left
   unchanged : (old new : ContextLogin) → AreRising logins → login_of logins id ≡ Some old → new ≡ old
-      → seen_live logins ≡ seen_live (with_login logins id new)
+      → seen_live logins nonces ≡ seen_live (with_login logins id new) nonces
   unchanged old new rising found same =
-      ap seen_live (sym (with_login-same logins id old rising found) ∙ ap (with_login logins id) (sym same))
+      ap (λ ls. seen_live ls nonces) (sym (with_login-same logins id old rising found) ∙ ap (with_login logins id) (sym same))
 
   -- a reply that is carried out on what is seen
   replied : (old new : ContextLogin) (outcome : Outcome) (r : Reply) → AreRising logins → login_of logins id ≡ Some old
+      → ((said : Outcome) → r ≡ Stays said → used_by nonces event said ≡ nonces)
       → IsReply r (not_due event) old outcome new
-      → carried_out (seen_live logins) event id (seen_login old) r ≡ record { outcome = outcome; live = seen_live (with_login logins id new) }
-  replied old new outcome NotDue rising found is =
-      rw (is.0, ← unchanged old new rising found is.1)
-      (ap (λ s. (let a : Answered = record { outcome = not_due event s; live = seen_live logins } in a)) (state-view pinned (λ key. tt) old.stage))
-  replied old new outcome (Stays said) rising found is = rw (is.0, ← unchanged old new rising found is.1) refl
-  replied old new outcome (Moves said stage) rising found is =
-      rw is.0 (ap (λ ls. (let a : Answered = record { outcome = said; live = record { logins = ls } } in a))
+      → carried_out (seen_live logins nonces) event id (seen_login old) r
+      ≡ record { outcome = outcome; live = seen_live (with_login logins id new) (used_by nonces event outcome) }
+  replied old new outcome NotDue rising found stays is =
+      rw (is.0, not_due_uses nonces event (state_of old.stage), ← unchanged old new rising found is.1)
+      (ap (λ s. (let a : Answered = record { outcome = not_due event s; live = seen_live logins nonces } in a)) (state-view pinned (λ key. tt) old.stage))
+  replied old new outcome (Stays said) rising found stays is =
+      rw (is.0, stays said refl, ← unchanged old new rising found is.1) refl
+  replied old new outcome (Moves said stage) rising found stays is =
+      rw is.0 (ap (λ ls. (let a : Answered = record { outcome = said; live = record { logins = ls; nonces = used_by nonces event said } } in a))
       (ap (with_login (each_login seen_login logins) id) (sym is.1) ∙ with_login-each_login seen_login logins id new))
 
   -- a step of a login that was found
-  pub found_answered : (old new : ContextLogin) (outcome : Outcome) → AreRising logins → login_of logins id ≡ Some old
-      → Answers known event old outcome new
-      → answered known (seen_live logins) event id ≡ record { outcome = outcome; live = seen_live (with_login logins id new) }
+  pub found_answered : (old new : ContextLogin) (outcome : Outcome) (nonces' : Nonces) → AreRising logins → login_of logins id ≡ Some old
+      → Answers known nonces event old outcome new → nonces' ≡ used_by nonces event outcome
+      → answered known (seen_live logins nonces) event id ≡ record { outcome = outcome; live = seen_live (with_login logins id new) nonces' }
   unfolding answered
-  found_answered old new outcome rising found answers =
-      ap (answered_for known (seen_live logins) event id) (login_of-each_login seen_login logins id ∙ ap (option_map seen_login) found)
+  found_answered old new outcome nonces' rising found answers used =
+      ap (answered_for known (seen_live logins nonces) event id) (login_of-each_login seen_login logins id ∙ ap (option_map seen_login) found)
       ∙ by (is_carried (carried event) old.serial) answers
+      ∙ ap (λ ns. (let a : Answered = record { outcome = outcome; live = seen_live (with_login logins id new) ns } in a)) (sym used)
     where
-      by : (b : Bool) → AnswersBy b known event old outcome new
-          → cond {A = Answered} b (carried_out (seen_live logins) event id (seen_login old) (reply known (seen_login old) event)) (record { outcome = outcomes.Gone; live = seen_live logins })
-          ≡ record { outcome = outcome; live = seen_live (with_login logins id new) }
-      by true is = replied old new outcome (reply known (seen_login old) event) rising found is
-      by false is = rw (is.0, ← unchanged old new rising found is.1) refl
+      by : (b : Bool) → AnswersBy b known nonces event old outcome new
+          → cond {A = Answered} b (carried_out (seen_live logins nonces) event id (seen_login old) (reply known nonces (seen_login old) event))
+          (record { outcome = outcomes.Gone; live = seen_live logins nonces })
+          ≡ record { outcome = outcome; live = seen_live (with_login logins id new) (used_by nonces event outcome) }
+      by true is =
+          replied old new outcome (reply known nonces (seen_login old) event) rising found
+          (stays_uses known nonces (seen_login old) event) is
+      by false is = rw (is.0, gone_uses nonces event, ← unchanged old new rising found is.1) refl
 
   -- the same of an answer that may want memory
-  pub found_all : {E : Type 0} (old new : ContextLogin) (result : Result Outcome E) → AreRising logins → login_of logins id ≡ Some old
-      → IfOk result (λ outcome. Answers known event old outcome new)
-      → IfOk result (λ outcome. answered known (seen_live logins) event id ≡ record { outcome = outcome; live = seen_live (with_login logins id new) })
-  found_all old new (Ok outcome) rising found answers = found_answered old new outcome rising found answers
-  found_all old new (Err e) rising found answers = answers
+  pub found_all : {E : Type 0} (old new : ContextLogin) (result : Result Outcome E) (nonces' : Nonces) → AreRising logins
+      → login_of logins id ≡ Some old
+      → IfOk result (λ outcome. Answers known nonces event old outcome new)
+      → IfOk result (λ outcome. nonces' ≡ used_by nonces event outcome)
+      → IfOk result (λ outcome. answered known (seen_live logins nonces) event id
+      ≡ record { outcome = outcome; live = seen_live (with_login logins id new) nonces' })
+  found_all old new (Ok outcome) nonces' rising found answers used = found_answered old new outcome nonces' rising found answers used
+  found_all old new (Err e) nonces' rising found answers used = answers
 
   -- what it costs
   pub found_cost : (old : ContextLogin) (before after : ℕ) → login_of logins id ≡ Some old
       → RoseBy before after (cost_for known event (Some (seen_login old)))
-      → RoseBy before after (login_cost known (seen_live logins) event id)
+      → RoseBy before after (login_cost known (seen_live logins nonces) event id)
   found_cost old before after found rose =
       rw (login_of-each_login seen_login logins id, found) rose
 
@@ -101,12 +114,14 @@ closed_stays known logins prepared id sound c login found = by (eqb c id) refl
         rw (login_of-without_login prepared id c, e) (sound c login there)
 
 -- what a refused step leaves is what was there
-pub kept_both : {A E : Type 0} (result : Result A E) (logins : List (ℕ × ContextLogin)) (prepared prepared' : List (ℕ × Prepared)) (id : ℕ) (old new : ContextLogin)
-    → AreRising logins → login_of logins id ≡ Some old → OnErr result ((new ≡ old) × (prepared' ≡ prepared))
-    → OnErr result ((with_login logins id new ≡ logins) × (prepared' ≡ prepared))
-kept_both (Ok x) logins prepared prepared' id old new rising found same = same
-kept_both (Err e) logins prepared prepared' id old new rising found same =
-    (ap (with_login logins id) same.0 ∙ with_login-same logins id old rising found, same.1)
+pub kept_all : {A E : Type 0} (result : Result A E) (logins : List (ℕ × ContextLogin)) (nonces nonces' : Nonces)
+    (prepared prepared' : List (ℕ × Prepared)) (id : ℕ) (old new : ContextLogin)
+    → AreRising logins → login_of logins id ≡ Some old
+    → OnErr result ((nonces' ≡ nonces) × (new ≡ old) × (prepared' ≡ prepared))
+    → OnErr result ((with_login logins id new ≡ logins) × (nonces' ≡ nonces) × (prepared' ≡ prepared))
+kept_all (Ok x) logins nonces nonces' prepared prepared' id old new rising found same = same
+kept_all (Err e) logins nonces nonces' prepared prepared' id old new rising found same =
+    (ap (with_login logins id) same.1 ∙ with_login-same logins id old rising found, same.0, same.2)
 
 -- no logins are sound
 pub nothing_sound : (known : Known) (logins : List (ℕ × ContextLogin)) (prepared : List (ℕ × Prepared)) → logins ≡ [] → IsSound known logins prepared

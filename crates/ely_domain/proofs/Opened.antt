@@ -12,7 +12,7 @@ use Rattle.ely_script.specs.Lines.{ScriptLine}
 use Rattle.ely_domain.specs.declared.event.Event.{Event}
 use Rattle.ely_domain.specs.declared.event.Event.TheVariants as events
 use Rattle.ely_domain.specs.Given.{Given, realms}
-use Rattle.ely_domain.specs.Machine.{Machine, step, change, opening_fault, opened_login, opened_or}
+use Rattle.ely_domain.specs.Machine.{Machine, step, change, opening_fault, opened_login, opened_or, alg_of}
 use Rattle.ely_domain.specs.Parts as parts
 use Rattle.ely_domain.specs.Parts.{Part, parts_by, parts_of, event_of}
 
@@ -25,6 +25,7 @@ four_parts (Ok command) = by_verb command.verb
     by_verb (verbs.Plain c message) = lit≤ tt
     by_verb (verbs.First c message) = lit≤ tt
     by_verb (verbs.Last c message) = lit≤ tt
+    by_verb (verbs.Digest c method target reply) = lit≤ tt
     by_verb (verbs.Change edit) = lit≤ tt
     by_verb (verbs.Begin c mech brought) = lit≤ tt
     by_verb (verbs.Authorize c) = lit≤ tt
@@ -69,6 +70,7 @@ lone_or_quiet (Ok command) = by_verb command.verb
     by_verb (verbs.Plain c message) = inr refl
     by_verb (verbs.First c message) = inr refl
     by_verb (verbs.Last c message) = inr refl
+    by_verb (verbs.Digest c method target reply) = inr refl
     by_verb (verbs.Change edit) = inl (lit≤ tt)
     by_verb (verbs.Begin c mech brought) = inl (lit≤ tt)
     by_verb (verbs.Authorize c) = inl (lit≤ tt)
@@ -81,7 +83,7 @@ change_opens : (m : Machine) (edit : Edit) (f : Option EditFault) → (change m 
 change_opens m edit None = refl
 change_opens m edit (Some f) = refl
 
-opened_or_opens : (m : Machine) (c : ℕ) (given : Given) (mech : Mech) (brought : Option (List ℕ)) (o : Option Outcome) → (opened_or m c (opened_login given m mech brought) o).1.opened ≤ m.opened + 1
+opened_or_opens : (m : Machine) (c : ℕ) (given : Given) (mech : Mech) (brought : Option (List ℕ)) (o : Option Outcome) → (opened_or given m c (opened_login given m mech brought) o).1.opened ≤ m.opened + 1
 opened_or_opens m c given mech brought None = omega arith
 opened_or_opens m c given mech brought (Some refusal) = omega arith
 
@@ -131,7 +133,7 @@ stays_by given m part carried event is quiet_part = by event (no_begin part carr
 -- at most one is opened by a step
 pub step_opens : (given : Given) (m : Machine) (event : Event) → (step given m event).1.opened ≤ m.opened + 1
 unfolding step
-step_opens given m (events.Begin c mech brought) = opened_or_opens m c given mech brought (opening_fault m.live c)
+step_opens given m (events.Begin c mech brought) = opened_or_opens m c given mech brought (opening_fault m.live c (opened_login given m mech brought).nonce (alg_of mech))
 step_opens given m (events.Change edit) = omega (arith, change_opens m edit (fault (realms given) given.limit m.edits edit))
 step_opens given m (events.Bad bad) = omega arith
 step_opens given m (events.Name1 d claim) = omega arith

@@ -21,6 +21,7 @@ use Rattle.ely_context.specs.declared.stage.Stage.TheVariants.{Fresh, Loading, N
 use Rattle.ely_context.specs.Logins.{login_of, with_login, without_login}
 use Rattle.ely_context.specs.Stages.{state_of, at_stage}
 use Rattle.ely_context.proofs.LoginLemmas.{login_of-without_login}
+use Rattle.ely_digest_msg.specs.declared.header.DigestAlg.{DigestAlg}
 use Rattle.ely_domain.specs.declared.event.Event.{Event}
 use Rattle.ely_domain.specs.declared.event.Event.TheVariants as events
 use Rattle.ely_domain.specs.Events.{login_id, is_id, is_on}
@@ -29,7 +30,7 @@ use Rattle.ely_domain.specs.Histories.{IsRun, machine_after, accepted_word, word
 use Rattle.ely_domain.specs.Identities.{Known, grants, to_log_in}
 use Rattle.ely_domain.specs.Lines.{Taken}
 use Rattle.ely_domain.specs.Logins.{Pinned, KnownStage, KnownLogin, Live}
-use Rattle.ely_domain.specs.Machine.{Machine, Answered, known, answered, answered_for, carried_out, change, opening_fault, opened_or, opened_login, closed, first_machine, step}
+use Rattle.ely_domain.specs.Machine.{Machine, Answered, known, answered, answered_for, carried_out, change, opening_fault, opened_or, opened_login, closed, first_machine, step, alg_of, is_used, challenge}
 use Rattle.ely_domain.specs.Steps.{Reply, NotDue, Stays, Moves, reply, carried, is_carried, not_due, not_there}
 use Rattle.ely_domain.specs.Verdicts.{exchange, is_proof_of}
 use Rattle.ely_domain.specs.WhoGetsIn.{Said, Opening, opened_by, pinned_by, evidence_shown, edit_made, known_by, has_shown, is_shown, is_granted}
@@ -114,9 +115,9 @@ module _ (k : Known) (live : Live) (event : Event) (c : ℕ) (rest : Option (Lis
   own_found None is = untracked k _ rest said event _ (not_there_refuses event) tracked
   own_found (Some login) is = by (is_carried (carried event) login.serial)
     where
-      by : (b : Bool) → (let a = cond {A = Answered} b (carried_out live event c login (reply k login event)) (record { outcome = outcomes.Gone; live = live }) in
+      by : (b : Bool) → (let a = cond {A = Answered} b (carried_out live event c login (reply k live.nonces login event)) (record { outcome = outcomes.Gone; live = live }) in
           IsTracked k (login_of a.live.logins c) (next rest (word_if event a.outcome)) (said_next k.given said event a.outcome))
-      by true = own_reply login is (reply k login event) (tracks k login rest said event (rw is at tracked))
+      by true = own_reply login is (reply k live.nonces login event) (tracks k live.nonces login rest said event (rw is at tracked))
       by false = untracked k _ rest said event outcomes.Gone refl tracked
 
   own_step : (let a = answered k live event c in IsTracked k (login_of a.live.logins c) (next rest (word_if event a.outcome)) (said_next k.given said event a.outcome))
@@ -134,8 +135,8 @@ other_found k live event c d apart (Some login) = by (is_carried (carried event)
     by_reply (Stays outcome) = refl
     by_reply (Moves outcome stage) = others_with live.logins d (at_stage login stage) c apart
 
-    by : (b : Bool) → login_of (cond {A = Answered} b (carried_out live event d login (reply k login event)) (record { outcome = outcomes.Gone; live = live })).live.logins c ≡ login_of live.logins c
-    by true = by_reply (reply k login event)
+    by : (b : Bool) → login_of (cond {A = Answered} b (carried_out live event d login (reply k live.nonces login event)) (record { outcome = outcomes.Gone; live = live })).live.logins c ≡ login_of live.logins c
+    by true = by_reply (reply k live.nonces login event)
     by false = refl
 
 pub other_step : (k : Known) (live : Live) (event : Event) (c d : ℕ) → (c == d) ≡ false
@@ -184,16 +185,20 @@ grows_said k e said None is = tt
 grows_said k e said (Some login) is = (is.0, grows_holds k e (opening_of login) said is.0 login.stage is.1)
 
 -- what can't be opened is refused
-opening_refuses : (live : Live) (d : ℕ) (refusal : Outcome) → opening_fault live d ≡ Some refusal → is_accepted refusal ≡ false
-opening_refuses live d refusal = by (is_some (login_of live.logins d)) (leb 4096 (length live.logins))
+opening_refuses : (live : Live) (d : ℕ) (nonce : List ℕ) (alg : Option DigestAlg) (refusal : Outcome)
+    → opening_fault live d nonce alg ≡ Some refusal → is_accepted refusal ≡ false
+opening_refuses live d nonce alg refusal =
+    by (is_some (login_of live.logins d)) (leb 4096 (length live.logins)) (is_used live.nonces nonce alg)
   where
     same : (x y : Outcome) → ◌≡◌ {A = Option Outcome} (Some x) (Some y) → x ≡ y
     same x y h = cc
 
-    by : (a b : Bool) → cond a (Some outcomes.InUse) (cond b (Some outcomes.ContextsFull) None) ≡ Some refusal → is_accepted refusal ≡ false
-    by true b h = rw (← same outcomes.InUse refusal h) refl
-    by false true h = rw (← same outcomes.ContextsFull refusal h) refl
-    by false false h = cc
+    by : (a b d : Bool) → cond a (Some outcomes.InUse) (cond b (Some outcomes.ContextsFull) (cond d (Some outcomes.NonceUsed) None)) ≡ Some refusal
+        → is_accepted refusal ≡ false
+    by true b d h = rw (← same outcomes.InUse refusal h) refl
+    by false true d h = rw (← same outcomes.ContextsFull refusal h) refl
+    by false false true h = rw (← same outcomes.NonceUsed refusal h) refl
+    by false false false h = cc
 
 -- a number is another where the other is another
 turned : (c d : ℕ) → (d == c) ≡ false → (c == d) ≡ false
@@ -216,13 +221,14 @@ module _ (given : Given) (m : Machine) (c : ℕ) (rest : Option (List StepWord))
           let off : is_on c event ≡ false = ap (is_id c) id_is ∙ e in
           rw (off, other_step (known given m) m.live event c d (turned c d e)) tracked
 
-  step_begin : (d : ℕ) (mech : Mech) (brought : Option (List ℕ)) (o : Option Outcome) → opening_fault m.live d ≡ o
-      → (let s = opened_or m d (opened_login given m mech brought) o in
+  step_begin : (d : ℕ) (mech : Mech) (brought : Option (List ℕ)) (o : Option Outcome)
+      → opening_fault m.live d (opened_login given m mech brought).nonce (alg_of mech) ≡ o
+      → (let s = opened_or given m d (opened_login given m mech brought) o in
       IsTrackedIn given s.1 c (next rest (accepted_word c (events.Begin d mech brought) s.0)) (said_after given c said (events.Begin d mech brought) s.0))
   step_begin d mech brought (Some refusal) is = by (eqb d c)
     where
       refused : is_accepted refusal ≡ false
-      refused = opening_refuses m.live d refusal is
+      refused = opening_refuses m.live d (opened_login given m mech brought).nonce (alg_of mech) refusal is
 
       by : (b : Bool) → IsTrackedIn given m c (next rest (cond b (cond (is_accepted refusal) (Some words.Begin) None) None))
           (let next' = said_next given said (events.Begin d mech brought) refusal in
@@ -232,7 +238,7 @@ module _ (given : Given) (m : Machine) (c : ℕ) (rest : Option (List StepWord))
   step_begin d mech brought None is = by (eqb d c) refl
     where
       by : (b : Bool) → eqb d c ≡ b → IsTracked (known given m) (login_of (with_login m.live.logins d (opened_login given m mech brought)) c) (next rest (cond b (Some words.Begin) None))
-          (let next' = said_next given said (events.Begin d mech brought) (outcomes.Opened (m.opened + 1) None) in
+          (let next' = said_next given said (events.Begin d mech brought) (outcomes.Opened (m.opened + 1) (challenge given (opened_login given m mech brought).nonce (alg_of mech))) in
           record { opening = cond b next'.opening said.opening; pin = cond b next'.pin said.pin; evidence = cond b next'.evidence said.evidence })
       by true e =
           rw (eqb-true d c e, itself_with m.live.logins c (opened_login given m mech brought))
@@ -275,7 +281,8 @@ module _ (given : Given) (m : Machine) (c : ℕ) (rest : Option (List StepWord))
   unfolding step
   step_tracked (events.Bad bad) = tracked
   step_tracked (events.Change edit) = step_change edit (fault (realms given) given.limit m.edits edit)
-  step_tracked (events.Begin d mech brought) = step_begin d mech brought (opening_fault m.live d) refl
+  step_tracked (events.Begin d mech brought) =
+      step_begin d mech brought (opening_fault m.live d (opened_login given m mech brought).nonce (alg_of mech)) refl
   step_tracked (events.Name1 d claim) = step_login (events.Name1 d claim) d refl
   step_tracked (events.Name2 d n brought) = step_login (events.Name2 d n brought) d refl
   step_tracked (events.Check1 d n evidence) = step_login (events.Check1 d n evidence) d refl
@@ -332,9 +339,9 @@ edits_step given m (events.Change edit) = by (fault (realms given) given.limit m
     by : (o : Option EditFault) → (change m edit o).1.edits ≡ m.edits ++ cons_option (edit_made (events.Change edit) (change m edit o).0) []
     by None = refl
     by (Some f) = sym (append-nil m.edits)
-edits_step given m (events.Begin d mech brought) = by (opening_fault m.live d)
+edits_step given m (events.Begin d mech brought) = by (opening_fault m.live d (opened_login given m mech brought).nonce (alg_of mech))
   where
-    by : (o : Option Outcome) → (opened_or m d (opened_login given m mech brought) o).1.edits ≡ m.edits ++ []
+    by : (o : Option Outcome) → (opened_or given m d (opened_login given m mech brought) o).1.edits ≡ m.edits ++ []
     by None = sym (append-nil m.edits)
     by (Some f) = sym (append-nil m.edits)
 edits_step given m (events.Bad bad) = sym (append-nil m.edits)

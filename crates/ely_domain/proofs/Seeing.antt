@@ -7,12 +7,13 @@ use Rattle.ely_context.specs.Logins.{login_of, with_login, without_login, state_
 use Rattle.ely_context.proofs.LoginLemmas.{login_of-each_login, login_of-with_login, login_of-without_login}
 use Rattle.ely_context.proofs.StageLemmas.{state-view}
 use Rattle.ely_domain.specs.Contexts.{pinned, seen_login, seen_live}
+use Rattle.ely_digest.specs.Nonces.{Nonces}
 use Rattle.ely_domain.specs.Lines.{serial_at}
 
 -- the state of a login that was found is the state that is seen
-pub state_seen : (logins : List (ℕ × ContextLogin)) (id : ℕ) (found : Option ContextLogin)
-    → found ≡ login_of logins id → state_or_absent found ≡ state_at (seen_live logins).logins id
-state_seen logins id found is =
+pub state_seen : (logins : List (ℕ × ContextLogin)) (nonces : Nonces) (id : ℕ) (found : Option ContextLogin)
+    → found ≡ login_of logins id → state_or_absent found ≡ state_at (seen_live logins nonces).logins id
+state_seen logins nonces id found is =
     alike found ∙ ap (λ o. state_or_absent (option_map seen_login o)) is
     ∙ ap state_or_absent (sym (login_of-each_login seen_login logins id))
   where
@@ -21,9 +22,9 @@ state_seen logins id found is =
     alike (Some login) = sym (state-view pinned (λ key. tt) login.stage)
 
 -- and so is its serial
-pub serial_seen : (logins : List (ℕ × ContextLogin)) (id : ℕ) (found : Option ContextLogin)
-    → found ≡ login_of logins id → option_map (λ login. login.serial) found ≡ serial_at (seen_live logins) id
-serial_seen logins id found is =
+pub serial_seen : (logins : List (ℕ × ContextLogin)) (nonces : Nonces) (id : ℕ) (found : Option ContextLogin)
+    → found ≡ login_of logins id → option_map (λ login. login.serial) found ≡ serial_at (seen_live logins nonces) id
+serial_seen logins nonces id found is =
     alike found ∙ ap (λ o. option_map (λ login. login.serial) (option_map seen_login o)) is
     ∙ ap (option_map (λ login. login.serial)) (sym (login_of-each_login seen_login logins id))
   where

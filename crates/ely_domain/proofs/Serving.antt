@@ -22,10 +22,10 @@ use Rattle.ely_domain.specs.Lines.{serial_given, carrier, carried_after}
 use Rattle.ely_domain.specs.Logins.{Pinned, KnownStage, KnownLogin, Live}
 use Rattle.ely_domain.specs.Machine.{Machine, Answered, known, answered, answered_for, carried_out, step}
 use Rattle.ely_domain.specs.Parts.{Part, Bad, Change, Begin, Name1, Name2, Check1, Check2, Authorize, Allows, Succeed, Fail, Close, parts_by, parts_of, event_of}
-use Rattle.ely_context.specs.ContextTable as table
-use Rattle.ely_domain.specs.Steps.{Reply, Stays, moves, is_evidence_of, naming, name1, pinned_or, check1}
+use Rattle.ely_domain.specs.Steps.{Reply, Stays, is_evidence_of, naming, name1, pinned_or, check1, shown_refusal, shown_or}
 use Rattle.ely_domain.proofs.Seeing.{itself_with}
 use Rattle.ely_domain.proofs.Tracking.{naming_refuses}
+use Rattle.ely_domain.proofs.Using.{shown_refuses}
 
 -- each part has an event, and after an accepted step so has what is left
 abbrev pub Serves : Given → Option ℕ → List Part → Type 0
@@ -104,15 +104,24 @@ check1_gives : (k : Known) (live : Live) (c : ℕ) (evidence : Evidence)
 unfolding answered
 check1_gives k live c evidence = by_found (login_of live.logins c)
   where
+    by_refusal : (login : KnownLogin) (p : Pinned) (key : Unit {0}) (o : Option Outcome) → shown_refusal live.nonces evidence ≡ o
+        → (let a = carried_out live (events.Check1 c None evidence) c login (shown_or evidence (Named p key) o) in
+        is_accepted a.outcome ≡ true → (n : ℕ) × (serial_given (Some c) a.outcome a.live ≡ Some n))
+    by_refusal login p key None is accepted = (login.serial, rw (itself_with live.logins c _) refl)
+    by_refusal login p key (Some refusal) is accepted = absurd (none (sym (shown_refuses live.nonces evidence refusal is) ∙ accepted))
+      where
+        none : false ≡ true → ⊥
+        none h = cc
+
     by_test : (login : KnownLogin) (p : Pinned) (key : Unit {0}) (b : Bool)
         → (let a = carried_out live (events.Check1 c None evidence) c login
-        (cond {A = Reply} b (moves outcomes.Fine (table.check1 evidence (Named p key))) (Stays (outcomes.Mechanism login.mech))) in
+        (cond {A = Reply} b (shown_or evidence (Named p key) (shown_refusal live.nonces evidence)) (Stays (outcomes.Mechanism login.mech))) in
         is_accepted a.outcome ≡ true → (n : ℕ) × (serial_given (Some c) a.outcome a.live ≡ Some n))
-    by_test login p key true accepted = (login.serial, rw (itself_with live.logins c _) refl)
+    by_test login p key true accepted = by_refusal login p key (shown_refusal live.nonces evidence) refl accepted
     by_test login p key false accepted = cc
 
     by_stage : (login : KnownLogin) (stage : KnownStage)
-        → (let a = carried_out live (events.Check1 c None evidence) c login (check1 login evidence stage) in is_accepted a.outcome ≡ true → (n : ℕ) × (serial_given (Some c) a.outcome a.live ≡ Some n))
+        → (let a = carried_out live (events.Check1 c None evidence) c login (check1 live.nonces login evidence stage) in is_accepted a.outcome ≡ true → (n : ℕ) × (serial_given (Some c) a.outcome a.live ≡ Some n))
     by_stage login (Named p key) accepted = by_test login p key (is_evidence_of login.mech evidence) accepted
     by_stage login Fresh accepted = cc
     by_stage login (Loading p) accepted = cc
@@ -157,6 +166,14 @@ serves_line given (Ok command) = by_verb command.verb
       λ m accepted.
           let gives = check1_gives (known given m) m.live c (evidences.Scram message) accepted in
           subst (λ o. Serves given (option_or o None) (Check2 c ∷ [])) (sym gives.1) (serves_with given gives.0 (Check2 c ∷ [])),
+    )
+    by_verb (verbs.Digest c method target reply) = (
+      _,
+      refl,
+      λ m accepted.
+          let gives = name1_gives (known given m) m.live c (claims.Digest reply.alg reply.name) accepted in
+          let rest = Name2 c ∷ Check1 c (evidences.Digest reply method target) ∷ Check2 c ∷ [] in
+          subst (λ o. Serves given (option_or o None) rest) (sym gives.1) (serves_with given gives.0 rest),
     )
     by_verb (verbs.Authorize c) = (_, refl, λ m accepted. tt)
     by_verb (verbs.Succeed c) = (_, refl, λ m accepted. tt)

@@ -1,5 +1,5 @@
 -- What a login's own steps say of it follows it through the machine: how far it has come, what it pinned, and what it showed.
-use Rattle.std.proofs.Common.{◌≡◌, ℕ, ◌≤◌, Bool, true, false, not, cond, List, [], ◌∷◌, ◌++◌, length, Option, Some, None, Result, Ok, Err, refl, sym, ap, subst, ◌∙◌, arith}
+use Rattle.std.proofs.Common.{◌≡◌, ℕ, ◌≤◌, Bool, true, false, not, cond, List, [], ◌∷◌, ◌++◌, length, Option, Some, None, Result, Ok, Err, refl, sym, ap, subst, ◌∙◌, arith, inl, inr}
 use Rattle.std.specs.Prelude.{IsSome}
 use Rattle.std.specs.List.{list_any}
 use Rattle.std.specs.Option.{option_or, ok_or}
@@ -21,6 +21,7 @@ use Rattle.ely_script.specs.Outcomes.{is_accepted}
 use Rattle.ely_context.specs.declared.stage.Stage.TheVariants.{Fresh, Loading, Named, Checking, Proved, Authorized, Complete, Failed}
 use Rattle.ely_context.specs.Stages.{at_stage}
 use Rattle.ely_job.specs.Dones.{Done}
+use Rattle.ely_digest.specs.Nonces.{Nonces}
 use Rattle.ely_domain.specs.declared.event.Event.{Event}
 use Rattle.ely_domain.specs.declared.event.Event.TheVariants as events
 use Rattle.ely_domain.specs.Events.{word_of}
@@ -28,10 +29,11 @@ use Rattle.ely_domain.specs.Given.{Given, place_of}
 use Rattle.ely_domain.specs.Histories.{is_end, is_ready_since}
 use Rattle.ely_domain.specs.Identities.{Known, ident, key_at, grants, to_log_in}
 use Rattle.ely_domain.specs.Logins.{Pinned, KnownStage, KnownLogin}
-use Rattle.ely_domain.specs.Steps.{Reply, NotDue, Stays, Moves, claimed_name, is_other, is_claim_of, is_evidence_of, serving, naming, require, pinned_or, told_of_key, name1, name2, check1, check2, yes_or_no, authorize, allows, succeed, fail, reply}
+use Rattle.ely_domain.specs.Steps.{Reply, NotDue, Stays, Moves, claimed_name, is_other, is_claim_of, is_evidence_of, shown_refusal, shown_or, serving, naming, require, pinned_or, told_of_key, name1, name2, check1, check2, yes_or_no, authorize, allows, succeed, fail, reply}
 use Rattle.ely_domain.specs.Verdicts.{exchange, verdict}
 use Rattle.ely_domain.specs.WhoGetsIn.{Said, Opening, opened_by, pinned_by, evidence_shown, has_shown, is_granted}
 use Rattle.ely_domain.proofs.Judging.{verdict_accepts, key_accepts}
+use Rattle.ely_domain.proofs.Using.{IsUseRefusal, refused_by}
 use Rattle.ely_domain.proofs.WordLists.{next, IsAt, moved_on, ended}
 
 -- the words since the open fit the stage
@@ -275,24 +277,34 @@ module _ (known : Known) (serial : ℕ) (mech : Mech) (nonce : List ℕ) (rest :
   track_name2 c n brought (Complete p) at = tt
   track_name2 c n brought Failed at = tt
 
-  track_check1 : (c : ℕ) (n : Option ℕ) (evidence : Evidence) (stage : KnownStage) → TrackedAt stage
-      → Tracks known (login stage) (Some rest) said (events.Check1 c n evidence) (check1 (login stage) evidence stage)
-  track_check1 c n evidence (Named p k) at = by (is_evidence_of mech evidence)
+  track_check1 : (nonces : Nonces) (c : ℕ) (n : Option ℕ) (evidence : Evidence) (stage : KnownStage) → TrackedAt stage
+      → Tracks known (login stage) (Some rest) said (events.Check1 c n evidence) (check1 nonces (login stage) evidence stage)
+  track_check1 nonces c n evidence (Named p k) at = by (is_evidence_of mech evidence)
     where
-      by : (b : Bool) → Tracks known (login (Named p k)) (Some rest) said (events.Check1 c n evidence)
-          (cond b (Moves outcomes.Fine (Checking p k evidence)) (Stays (outcomes.Mechanism mech)))
-      by true = record {
+      by_use : (o : Option Outcome) → shown_refusal nonces evidence ≡ o
+          → Tracks known (login (Named p k)) (Some rest) said (events.Check1 c n evidence) (shown_or evidence (Named p k) o)
+      by_use None is = record {
         fits = moved_on rest _ _ words.Check1 at.0 refl refl;
         is_said = (opening_is, (record { pin = at.1.pin; past = at.1.past }, refl));
       }
+      by_use (Some refusal) is = by_cause (refused_by nonces evidence refusal is)
+        where
+          by_cause : IsUseRefusal refusal → Tracks known (login (Named p k)) (Some rest) said (events.Check1 c n evidence) (Stays refusal)
+          by_cause (inl stale) = rw stale (record { fits = at.0; is_said = (opening_is, record { pin = at.1.pin; past = at.1.past }) })
+          by_cause (inr replayed) =
+              rw replayed.1 (record { fits = at.0; is_said = (opening_is, record { pin = at.1.pin; past = at.1.past }) })
+
+      by : (b : Bool) → Tracks known (login (Named p k)) (Some rest) said (events.Check1 c n evidence)
+          (cond b (shown_or evidence (Named p k) (shown_refusal nonces evidence)) (Stays (outcomes.Mechanism mech)))
+      by true = by_use (shown_refusal nonces evidence) refl
       by false = record { fits = at.0; is_said = (opening_is, record { pin = at.1.pin; past = at.1.past }) }
-  track_check1 c n evidence Fresh at = tt
-  track_check1 c n evidence (Loading p) at = tt
-  track_check1 c n evidence (Checking p k e) at = tt
-  track_check1 c n evidence (Proved p) at = tt
-  track_check1 c n evidence (Authorized p) at = tt
-  track_check1 c n evidence (Complete p) at = tt
-  track_check1 c n evidence Failed at = tt
+  track_check1 nonces c n evidence Fresh at = tt
+  track_check1 nonces c n evidence (Loading p) at = tt
+  track_check1 nonces c n evidence (Checking p k e) at = tt
+  track_check1 nonces c n evidence (Proved p) at = tt
+  track_check1 nonces c n evidence (Authorized p) at = tt
+  track_check1 nonces c n evidence (Complete p) at = tt
+  track_check1 nonces c n evidence Failed at = tt
 
   -- what was said last of a login that is checked is what is judged
   pub shown_is : (p : Pinned) (e : Evidence) → IsPinSaid known p said → said.evidence ≡ Some e
@@ -382,15 +394,15 @@ module _ (known : Known) (serial : ℕ) (mech : Mech) (nonce : List ℕ) (rest :
   track_fail c Failed at = tt
 
 -- every step tracks its login
-pub tracks : (known : Known) (login : KnownLogin) (rest : Option (List StepWord)) (said : Said) (event : Event)
-    → IsTracked known (Some login) rest said → Tracks known login rest said event (reply known login event)
-tracks known login None said event tracked = absurd tracked.fits
-tracks known login (Some rest) said event tracked = by event
+pub tracks : (known : Known) (nonces : Nonces) (login : KnownLogin) (rest : Option (List StepWord)) (said : Said) (event : Event)
+    → IsTracked known (Some login) rest said → Tracks known login rest said event (reply known nonces login event)
+tracks known nonces login None said event tracked = absurd tracked.fits
+tracks known nonces login (Some rest) said event tracked = by event
   where
-    by : (event : Event) → Tracks known login (Some rest) said event (reply known login event)
+    by : (event : Event) → Tracks known login (Some rest) said event (reply known nonces login event)
     by (events.Name1 c claim) = track_name1 known login.serial login.mech login.nonce rest said tracked.is_said.0 c claim login.stage (tracked.fits, tracked.is_said.1)
     by (events.Name2 c n brought) = track_name2 known login.serial login.mech login.nonce rest said tracked.is_said.0 c n brought login.stage (tracked.fits, tracked.is_said.1)
-    by (events.Check1 c n evidence) = track_check1 known login.serial login.mech login.nonce rest said tracked.is_said.0 c n evidence login.stage (tracked.fits, tracked.is_said.1)
+    by (events.Check1 c n evidence) = track_check1 known login.serial login.mech login.nonce rest said tracked.is_said.0 nonces c n evidence login.stage (tracked.fits, tracked.is_said.1)
     by (events.Check2 c n brought) = track_check2 known login.serial login.mech login.nonce rest said tracked.is_said.0 c n brought login.stage (tracked.fits, tracked.is_said.1)
     by (events.Authorize c) = track_authorize known login.serial login.mech login.nonce rest said tracked.is_said.0 c login.stage (tracked.fits, tracked.is_said.1)
     by (events.Allows c wanted) = track_allows known login.serial login.mech login.nonce rest said tracked.is_said.0 c wanted login.stage (tracked.fits, tracked.is_said.1)

@@ -240,6 +240,7 @@ has_parts (Ok command) = by_verb command.verb
     by_verb (verbs.Plain c message) = (_, _, refl)
     by_verb (verbs.First c message) = (_, _, refl)
     by_verb (verbs.Last c message) = (_, _, refl)
+    by_verb (verbs.Digest c method target reply) = (_, _, refl)
     by_verb (verbs.Authorize c) = (_, _, refl)
     by_verb (verbs.Succeed c) = (_, _, refl)
     by_verb (verbs.Fail c) = (_, _, refl)

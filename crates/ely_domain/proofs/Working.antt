@@ -1,5 +1,5 @@
 -- The jobs of logins: which one a login at a stage has.
-use Rattle.std.proofs.Common.{◌≡◌, ℕ, Bool, true, false, cond, List, Option, Some, None, refl, sym, ap, subst, ◌∙◌}
+use Rattle.std.proofs.Common.{is_some, ◌≡◌, ℕ, Bool, true, false, cond, List, Option, Some, None, refl, sym, ap, subst, ◌∙◌}
 use Rattle.std.specs.Prelude.{option_and_then, nat_eq}
 use Rattle.std.specs.Option.{option_map}
 use Rattle.std.proofs.lemmas.Option.{same_Some}
@@ -16,6 +16,7 @@ use Rattle.ely_context.specs.Contexts.{ContextStage, ContextLogin}
 use Rattle.ely_context.specs.Stages.{loading_pin, named_parts, checked_parts}
 use Rattle.ely_context.specs.Logins.{login_of}
 use Rattle.ely_context.proofs.LoginLemmas.{login_of-each_login}
+use Rattle.ely_digest.specs.Nonces.{Nonces}
 use Rattle.ely_domain.specs.Contexts.{IsKey, HoldsIts, seen_login, seen_live}
 use Rattle.ely_domain.specs.Costs.{naming_cost}
 use Rattle.ely_domain.specs.declared.event.Event.{Event}
@@ -24,7 +25,7 @@ use Rattle.ely_domain.specs.Identities.{Known}
 use Rattle.ely_domain.specs.Jobs.{check_job, job_at, job_with, job_of, IsBrought, BringsTo, Brings}
 use Rattle.ely_domain.specs.Handing.{check1_job, job_by, job_ahead}
 use Rattle.ely_domain.specs.Lines.{carrier}
-use Rattle.ely_domain.specs.Steps.{is_evidence_of}
+use Rattle.ely_domain.specs.Steps.{is_evidence_of, shown_refusal}
 use Rattle.ely_domain.specs.Verdicts.{exchange, server_first}
 use Rattle.ely_domain.proofs.Keys.{key_mech}
 
@@ -121,19 +122,21 @@ module _ (known : Known) (serial : ℕ) (mech : Mech) (nonce : List ℕ) where
 
   pub named_job : (stage : ContextStage) (p : Pin) (key : Naming) (evidence : Evidence) → named_parts stage ≡ Some (p, key)
       → HoldsIts known mech nonce stage → is_evidence_of mech evidence ≡ true
-      → check_job (exchange known.given nonce p.claim) key.ready evidence ≡ check1_job known (seen_login (login stage)) evidence (seen_login (login stage)).stage
-  named_job (Named q own) p key evidence is holds form =
+      → (nonces : Nonces) → is_some (shown_refusal nonces evidence) ≡ false
+      → check_job (exchange known.given nonce p.claim) key.ready evidence
+      ≡ check1_job known nonces (seen_login (login stage)) evidence (seen_login (login stage)).stage
+  named_job (Named q own) p key evidence is holds form nonces fresh =
       let both = same_Some _ _ is in
       let pins : q ≡ p = ap (λ (x : Pin × Naming). x.0) both in
       let keys : own ≡ key = ap (λ (x : Pin × Naming). x.1) both in
-      rw (form, holds.1.ready_is, pins, keys) refl
-  named_job Fresh p key evidence is holds form = absurd cc
-  named_job (Loading q) p key evidence is holds form = absurd cc
-  named_job (Checking q own shown) p key evidence is holds form = absurd cc
-  named_job (Proved q) p key evidence is holds form = absurd cc
-  named_job (Authorized q) p key evidence is holds form = absurd cc
-  named_job (Complete q) p key evidence is holds form = absurd cc
-  named_job Failed p key evidence is holds form = absurd cc
+      rw (form, fresh, holds.1.ready_is, pins, keys) refl
+  named_job Fresh p key evidence is holds form nonces fresh = absurd cc
+  named_job (Loading q) p key evidence is holds form nonces fresh = absurd cc
+  named_job (Checking q own shown) p key evidence is holds form nonces fresh = absurd cc
+  named_job (Proved q) p key evidence is holds form nonces fresh = absurd cc
+  named_job (Authorized q) p key evidence is holds form nonces fresh = absurd cc
+  named_job (Complete q) p key evidence is holds form nonces fresh = absurd cc
+  named_job Failed p key evidence is holds form nonces fresh = absurd cc
 
   -- what its key takes
   pub loading_cost : (stage : ContextStage) (p : Pin) → loading_pin stage ≡ Some p → HoldsIts known mech nonce stage
@@ -148,30 +151,30 @@ module _ (known : Known) (serial : ℕ) (mech : Mech) (nonce : List ℕ) where
   loading_cost Failed p is holds = absurd cc
 
 -- the job of a login that was found, with this serial or with another, and of none
-module _ (known : Known) (logins : List (ℕ × ContextLogin)) (id serial : ℕ) where
+module _ (known : Known) (logins : List (ℕ × ContextLogin)) (nonces : Nonces) (id serial : ℕ) where
   found_job : (login : ContextLogin) → Some login ≡ login_of logins id
-      → job_of known (seen_live logins) id serial ≡ job_with known serial (seen_login login)
+      → job_of known (seen_live logins nonces) id serial ≡ job_with known serial (seen_login login)
   unfolding job_of
   found_job login found =
       ap (option_and_then (job_with known serial)) (login_of-each_login seen_login logins id ∙ ap (option_map seen_login) (sym found))
 
   pub same_job : (login : ContextLogin) → Some login ≡ login_of logins id → nat_eq login.serial serial ≡ true
-      → job_of known (seen_live logins) id serial ≡ job_at known (seen_login login) (seen_login login).stage
+      → job_of known (seen_live logins nonces) id serial ≡ job_at known (seen_login login) (seen_login login).stage
   same_job login found same = found_job login found ∙ rw same refl
 
   pub other_job : (login : ContextLogin) → Some login ≡ login_of logins id → nat_eq login.serial serial ≡ false
-      → None ≡ job_of known (seen_live logins) id serial
+      → None ≡ job_of known (seen_live logins nonces) id serial
   other_job login found other = sym (found_job login found ∙ rw other refl)
 
-  pub absent_job : None ≡ login_of logins id → None ≡ job_of known (seen_live logins) id serial
+  pub absent_job : None ≡ login_of logins id → None ≡ job_of known (seen_live logins nonces) id serial
   unfolding job_of
   absent_job none =
       sym (ap (option_and_then (job_with known serial)) (login_of-each_login seen_login logins id ∙ ap (option_map seen_login) (sym none)))
 
 -- what is brought for the login with an id is brought to it
-module _ (known : Known) (logins : List (ℕ × ContextLogin)) (id : ℕ) where
+module _ (known : Known) (logins : List (ℕ × ContextLogin)) (nonces : Nonces) (id : ℕ) where
   pub brings_found : (login : ContextLogin) (event : Event) → Some login ≡ login_of logins id
-      → Brings known (seen_live logins) id event → BringsTo known (seen_login login) event
+      → Brings known (seen_live logins nonces) id event → BringsTo known (seen_login login) event
   unfolding job_of
   brings_found login event found b = by event b
     where
@@ -182,14 +185,14 @@ module _ (known : Known) (logins : List (ℕ × ContextLogin)) (id : ℕ) where
           none : (job : Work) → ◌≡◌ {A = Option Work} (Some job) None → ⊥
           none job h = cc
 
-      by_job : (n : ℕ) (brought : Option Done) → IsBrought brought (job_of known (seen_live logins) id n)
+      by_job : (n : ℕ) (brought : Option Done) → IsBrought brought (job_of known (seen_live logins nonces) id n)
           → IsBrought brought (job_at known (seen_login login) (seen_login login).stage)
       by_job n brought b = by_serial brought (nat_eq login.serial n) _ (rw (job_of_login n) at b)
         where
-          job_of_login : (n : ℕ) → job_of known (seen_live logins) id n ≡ job_with known n (seen_login login)
+          job_of_login : (n : ℕ) → job_of known (seen_live logins nonces) id n ≡ job_with known n (seen_login login)
           job_of_login n = ap (option_and_then (job_with known n)) (login_of-each_login seen_login logins id ∙ ap (option_map seen_login) (sym found))
 
-      by : (event : Event) → Brings known (seen_live logins) id event → BringsTo known (seen_login login) event
+      by : (event : Event) → Brings known (seen_live logins nonces) id event → BringsTo known (seen_login login) event
       by (events.Name2 c n brought) b = by_job n brought b
       by (events.Check2 c n brought) b = by_job n brought b
       by (events.Bad bad) b = b
@@ -204,13 +207,13 @@ module _ (known : Known) (logins : List (ℕ × ContextLogin)) (id : ℕ) where
       by (events.Close c) b = b
 
   -- the job that a login is told to hand out
-  pub ahead_none : (event : Event) → Some id ≡ carrier event → None ≡ login_of logins id → None ≡ job_ahead known (seen_live logins) event
+  pub ahead_none : (event : Event) → Some id ≡ carrier event → None ≡ login_of logins id → None ≡ job_ahead known (seen_live logins nonces) event
   ahead_none event is none =
-      sym (ap (option_and_then (λ c. option_and_then (job_by known event) (login_of (seen_live logins).logins c))) (sym is)
-      ∙ ap (option_and_then (job_by known event)) (login_of-each_login seen_login logins id ∙ ap (option_map seen_login) (sym none)))
+      sym (ap (option_and_then (λ c. option_and_then (job_by known nonces event) (login_of (seen_live logins nonces).logins c))) (sym is)
+      ∙ ap (option_and_then (job_by known nonces event)) (login_of-each_login seen_login logins id ∙ ap (option_map seen_login) (sym none)))
 
   pub ahead_found : (event : Event) (login : ContextLogin) → Some id ≡ carrier event → Some login ≡ login_of logins id
-      → job_by known event (seen_login login) ≡ job_ahead known (seen_live logins) event
+      → job_by known nonces event (seen_login login) ≡ job_ahead known (seen_live logins nonces) event
   ahead_found event login is found =
-      sym (ap (option_and_then (λ c. option_and_then (job_by known event) (login_of (seen_live logins).logins c))) (sym is)
-      ∙ ap (option_and_then (job_by known event)) (login_of-each_login seen_login logins id ∙ ap (option_map seen_login) (sym found)))
+      sym (ap (option_and_then (λ c. option_and_then (job_by known nonces event) (login_of (seen_live logins nonces).logins c))) (sym is)
+      ∙ ap (option_and_then (job_by known nonces event)) (login_of-each_login seen_login logins id ∙ ap (option_map seen_login) (sym found)))

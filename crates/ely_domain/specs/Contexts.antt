@@ -2,7 +2,8 @@
 use Rattle.std.specs.Prelude.{ℕ, ◌≡◌, ◌≤◌, ◌⊎◌, Bool, true, false, List, length, Option, Some, None, IsSome, Result, Ok, Err}
 use Rattle.ely_row.specs.declared.mech.Mech.{Mech}
 use Rattle.ely_cred.specs.Keys.{chosen}
-use Rattle.ely_config.specs.declared.Config.{Config}
+use Rattle.ely_config.specs.Configs.{Config}
+use Rattle.ely_digest.specs.Nonces.{Nonces}
 use Rattle.ely_table.specs.Faults.{Tables}
 use Rattle.ely_script.specs.declared.claim.Claim.{Claim}
 use Rattle.ely_script.specs.declared.outcome.Outcome.{Outcome}
@@ -16,6 +17,7 @@ use Rattle.ely_context.specs.Stages.{state_of, proved_pin, login_view, at_stage}
 use Rattle.ely_context.specs.Logins.{login_of, each_login}
 use Rattle.ely_domain.specs.declared.naming.Found.{Found}
 use Rattle.ely_domain.specs.declared.prepared.Prepared.{Prepared}
+use Rattle.ely_domain.specs.Given.{realms}
 use Rattle.ely_domain.specs.Identities.{Known, ident, key_at, roles, grants, to_log_in}
 use Rattle.ely_domain.specs.Logins.{Pinned, KnownLogin, Live}
 use Rattle.ely_domain.specs.declared.event.Event.{Event}
@@ -30,13 +32,17 @@ pinned p = record { version = p.version; place = p.place; claim = p.claim }
 abbrev pub seen_login : ContextLogin → KnownLogin
 seen_login login = login_view pinned (λ key. tt) login
 
--- what the machine knows of the live logins
-abbrev pub seen_live : List (ℕ × ContextLogin) → Live
-seen_live logins = record { logins = each_login seen_login logins }
+-- what the machine knows of the live logins, with the nonces
+abbrev pub seen_live : List (ℕ × ContextLogin) → Nonces → Live
+seen_live logins nonces = record { logins = each_login seen_login logins; nonces = nonces }
 
 -- what a step may read, of the configuration and the tables of a domain
 abbrev pub read_of : Config → Tables → Known
 read_of config tables = record { given = record { config = config; limit = tables.limit }; edits = tables.journal }
+
+-- the tables are those of the configuration's realms
+abbrev pub AreOf : Config → Tables → Type 0
+AreOf config tables = tables.realms ≡ realms (read_of config tables).given
 
 -- what succeed hands out for a pin
 abbrev pub prepared_for : Known → Pinned → Prepared
@@ -112,10 +118,11 @@ Asks known stage (Err refusal) = (proved_pin stage ≡ None) × (refusal ≡ out
     ⊎ ((p : Pin) × (stage ≡ Proved p) × (grants known p.version p.place to_log_in ≡ false) × (refusal ≡ outcomes.Denied p.version))
 
 -- an outcome, and a login after it, are what a step makes of a login that was found, which has the serial that is carried or not
-abbrev pub AnswersBy : Bool → Known → Event → ContextLogin → Outcome → ContextLogin → Type 0
-AnswersBy true known event old outcome new = IsReply (reply known (seen_login old) event) (not_due event) old outcome new
-AnswersBy false known event old outcome new = (outcome ≡ outcomes.Gone) × (new ≡ old)
+abbrev pub AnswersBy : Bool → Known → Nonces → Event → ContextLogin → Outcome → ContextLogin → Type 0
+AnswersBy true known nonces event old outcome new =
+    IsReply (reply known nonces (seen_login old) event) (not_due event) old outcome new
+AnswersBy false known nonces event old outcome new = (outcome ≡ outcomes.Gone) × (new ≡ old)
 
 -- the same of the login's own serial
-abbrev pub Answers : Known → Event → ContextLogin → Outcome → ContextLogin → Type 0
-Answers known event old outcome new = AnswersBy (is_carried (carried event) old.serial) known event old outcome new
+abbrev pub Answers : Known → Nonces → Event → ContextLogin → Outcome → ContextLogin → Type 0
+Answers known nonces event old outcome new = AnswersBy (is_carried (carried event) old.serial) known nonces event old outcome new

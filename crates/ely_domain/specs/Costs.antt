@@ -22,11 +22,12 @@ abbrev pub row_cost : Known → Mech → Option Row → ℕ
 row_cost known mech None = 0
 row_cost known mech (Some row) = ready_cost known.given.config.params mech row
 
--- what it takes to judge evidence with a key: by PLAIN the turns of a salted one, by SCRAM two signatures
+-- what it takes to judge evidence with a key: by PLAIN the turns of a salted one, by SCRAM two signatures, by Digest none
 abbrev pub proof_cost : Option Ready → Evidence → ℕ
 proof_cost None evidence = 0
 proof_cost (Some key) (evidences.Plain password) = guess_cost key.cred
 proof_cost (Some key) (evidences.Scram last) = 2
+proof_cost (Some key) (evidences.Digest reply method target) = 0
 
 -- what the second half of a naming takes at a stage: the derivation of the pinned version's key
 abbrev pub naming_cost : Known → KnownLogin → KnownStage → ℕ

@@ -15,6 +15,7 @@ edit_word (edits.SetCred realm name slot cred) = words.SetCred
 edit_word (edits.DropCred realm name slot) = words.DropCred
 edit_word (edits.SetAttr realm name attr values) = words.SetAttr
 edit_word (edits.DropAttr realm name attr) = words.DropAttr
+edit_word (edits.Reload realm users groups) = words.Reload
 
 -- the word of an event
 abbrev pub word_of : Event → StepWord

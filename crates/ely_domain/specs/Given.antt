@@ -1,41 +1,65 @@
 -- What a domain is made with, and what follows from it alone.
-use Rattle.std.specs.Prelude.{ℕ, List, [], ◌∷◌, ◌++◌, take, codes, Option, unwrap_or, Result, Ok}
+use Rattle.std.specs.Prelude.{ℕ, List, [], ◌∷◌, ◌++◌, take, map, codes, Option, Some, None, unwrap_or, Result, Ok}
+use Rattle.std.specs.List.{filter_map}
 use Rattle.std.specs.Int.{w64, to_be_bytes}
 use Rattle.ely_base.specs.Texts.{hex_text}
 use Rattle.ely_hash.specs.Hashes.{sha256_hash}
 use Rattle.ely_row.specs.declared.edit.Edit.{Edit}
+use Rattle.ely_row.specs.declared.edit.Edit.TheVariants.{Reload}
 use Rattle.ely_row.specs.declared.mech.Mech.{Mech}
 use Rattle.ely_row.specs.declared.mech.Mech.TheVariants as mechs
 use Rattle.ely_row.specs.declared.place.PipeFault.{PipeFault}
 use Rattle.ely_row.specs.declared.place.Place.{Place}
 use Rattle.ely_table.specs.declared.class.RealmClass.{RealmClass}
-use Rattle.ely_table.specs.declared.class.RealmClass.TheVariants.{Modifiable}
-use Rattle.ely_config.specs.declared.Config.{Config}
+use Rattle.ely_table.specs.declared.class.RealmClass.TheVariants as classes
+use Rattle.ely_config.specs.declared.realm.RealmConfig.{RealmConfig}
+use Rattle.ely_config.specs.declared.realm.RealmKind.{RealmKind}
+use Rattle.ely_config.specs.declared.realm.RealmKind.TheVariants as kinds
+use Rattle.ely_config.specs.Configs.{Config}
 
 -- the configuration, and the most edits that the journal takes
 pub record Given : Type 0 where
   pub config : Config
   pub limit : ℕ
 
--- the name of the one realm that there is
-unfoldable pub main_realm : List ℕ
-main_realm = codes "main"
+-- the class of a kind of realm; the hashes of a text that names no realm are of the one that Digest announces
+abbrev pub class_by : List ℕ → RealmKind → RealmClass
+class_by digest_realm kinds.Modifiable = classes.Modifiable
+class_by digest_realm (kinds.Properties plain users groups) = classes.Properties plain digest_realm
+
+-- these realms with their classes
+abbrev pub classed : List ℕ → List RealmConfig → List (List ℕ × RealmClass)
+classed digest_realm realms = map (λ realm. (realm.name, class_by digest_realm realm.kind)) realms
 
 -- the realms with their classes
 abbrev pub realms : Given → List (List ℕ × RealmClass)
-realms given = (main_realm, Modifiable) ∷ []
+realms given = classed given.config.digest_realm given.config.realms
 
--- the edits with which the journal begins: none, since no realm is read from texts
+-- the edit that fills a realm of this name and kind with the identities of its texts, where it has texts
+abbrev pub loading : List ℕ → RealmKind → Option Edit
+loading name kinds.Modifiable = None
+loading name (kinds.Properties plain users groups) = Some (Reload name users groups)
+
+-- the same of these realms, in order
+unfoldable pub loadings : List RealmConfig → List Edit
+loadings realms = filter_map (λ realm. loading realm.name realm.kind) realms
+
+-- the edits with which the journal begins: one reload of each realm that has texts
 abbrev pub start : Given → List Edit
-start given = []
+start given = loadings given.config.realms
 
 -- the attribute whose values are the roles of a realm's identities
 abbrev pub role_attribute : Given → List ℕ → List ℕ
 role_attribute given realm = codes "groups"
 
+-- the realm in which names are looked for: the first
+abbrev pub first_realm : List RealmConfig → List ℕ
+first_realm [] = []
+first_realm (realm ∷ realms) = realm.name
+
 -- the place of a name, or the first stage on the way to it that gives nothing
 unfoldable pub place_of : Given → List ℕ → Result Place PipeFault
-place_of given name = Ok (record { realm = main_realm; name = name })
+place_of given name = Ok (record { realm = first_realm given.config.realms; name = name })
 
 -- the nonce of an open that brings none: the first 16 bytes of a digest of the seed and the serial, in hexadecimal
 unfoldable pub derived_nonce : List ℕ → ℕ → List ℕ

@@ -31,6 +31,7 @@ message_job claim nonce key text last = None
 abbrev pub check_job : Exchange → Ready → Evidence → Option Work
 check_job said key (evidences.Plain password) = Some (jobs.Guess key password)
 check_job said key (evidences.Scram last) = message_job said.claim said.nonce key (server_first said key) last
+check_job said key (evidences.Digest reply method target) = Some (jobs.Digest key reply method target said.digest_realm)
 
 -- the job of a login: a loading one needs the key of the pinned version, and a checked one a verdict by that key
 abbrev pub job_at : Known → KnownLogin → KnownStage → Option Work

@@ -5,6 +5,7 @@ use Rattle.ely_script.specs.declared.claim.Claim.{Claim}
 use Rattle.ely_script.specs.declared.claim.Evidence.{Evidence}
 use Rattle.ely_context.specs.declared.stage.Stage.{Stage}
 use Rattle.ely_context.specs.Stages.{Login}
+use Rattle.ely_digest.specs.Nonces.{Nonces}
 
 -- what a naming pinned: how many edits count, whom they are asked about, and what the login said of itself
 pub record Pinned : Type 0 where
@@ -20,6 +21,8 @@ KnownStage = Stage Pinned (Unit {0}) Evidence
 abbrev pub KnownLogin : Type 0
 KnownLogin = Login Pinned (Unit {0}) Evidence
 
--- what a step of a login may change: the live logins by their ids, the ids rising
+-- what a step of a login may change: the live logins by their ids, the ids rising, and the nonces that were issued, each with
+-- the last count by which it was used
 pub record Live : Type 0 where
   pub logins : List (ℕ × KnownLogin)
+  pub nonces : Nonces

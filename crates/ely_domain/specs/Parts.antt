@@ -39,6 +39,8 @@ parts_by (verbs.Plain c message) =
     ∷ Check1 c (evidences.Plain message.password) ∷ Check2 c ∷ []
 parts_by (verbs.First c message) = Name1 c (claims.Scram message) ∷ Name2 c ∷ []
 parts_by (verbs.Last c message) = Check1 c (evidences.Scram message) ∷ Check2 c ∷ []
+parts_by (verbs.Digest c method target reply) =
+    Name1 c (claims.Digest reply.alg reply.name) ∷ Name2 c ∷ Check1 c (evidences.Digest reply method target) ∷ Check2 c ∷ []
 parts_by (verbs.Authorize c) = Authorize c ∷ []
 parts_by (verbs.Succeed c) = Succeed c ∷ []
 parts_by (verbs.Fail c) = Fail c ∷ []

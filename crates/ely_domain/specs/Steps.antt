@@ -17,6 +17,11 @@ use Rattle.ely_script.specs.declared.word.StateWord.{StateWord}
 use Rattle.ely_script.specs.declared.word.StateWord.TheVariants as states
 use Rattle.ely_script.specs.Outcomes.{is_accepted}
 use Rattle.ely_cred.specs.Keys.{chosen}
+use Rattle.ely_digest_msg.specs.declared.header.DigestAlg.{DigestAlg}
+use Rattle.ely_digest_msg.specs.declared.header.DigestAlg.TheVariants as algs
+use Rattle.ely_digest.specs.declared.nonce_table.SpendFault.{SpendFault}
+use Rattle.ely_digest.specs.declared.nonce_table.SpendFault.TheVariants as faults
+use Rattle.ely_digest.specs.Nonces.{Nonces, last_count, with_count, spending}
 use Rattle.ely_context.specs.declared.stage.Stage.TheVariants.{Fresh, Loading, Named, Checking, Proved, Authorized, Complete}
 use Rattle.ely_context.specs.ContextTable as table
 use Rattle.ely_domain.specs.declared.event.Event.{Event}
@@ -41,6 +46,7 @@ moves outcome (Some stage) = Moves outcome stage
 abbrev pub claimed_name : Claim → List ℕ
 claimed_name (claims.Plain authzid name) = name
 claimed_name (claims.Scram first) = first.name
+claimed_name (claims.Digest alg name) = name
 
 -- an authorization name, where there is one, is another than the name
 abbrev pub differs : Option (List ℕ) → List ℕ → Bool
@@ -51,12 +57,20 @@ differs (Some authzid) name = not (bytes_eq authzid name)
 abbrev pub is_other : Claim → Bool
 is_other (claims.Plain authzid name) = differs authzid name
 is_other (claims.Scram first) = differs first.authzid first.name
+is_other (claims.Digest alg name) = false
+
+-- the hash function that a header names is that of the mechanism
+abbrev pub is_alg_of : Mech → DigestAlg → Bool
+is_alg_of mechs.Digest algs.Md5 = true
+is_alg_of mechs.DigestSha256 algs.Sha256 = true
+is_alg_of _ _ = false
 
 -- the claim is of that mechanism
 abbrev pub is_claim_of : Mech → Claim → Bool
 is_claim_of mechs.Plain (claims.Plain authzid name) = true
 is_claim_of mechs.ScramSha1 (claims.Scram first) = true
 is_claim_of mechs.ScramSha256 (claims.Scram first) = true
+is_claim_of mech (claims.Digest alg name) = is_alg_of mech alg
 is_claim_of _ _ = false
 
 -- the evidence is of that mechanism
@@ -64,6 +78,7 @@ abbrev pub is_evidence_of : Mech → Evidence → Bool
 is_evidence_of mechs.Plain (evidences.Plain password) = true
 is_evidence_of mechs.ScramSha1 (evidences.Scram last) = true
 is_evidence_of mechs.ScramSha256 (evidences.Scram last) = true
+is_evidence_of mech (evidences.Digest reply method target) = is_alg_of mech reply.alg
 is_evidence_of _ _ = false
 
 -- nothing, or the refusal where the test fails
@@ -112,13 +127,39 @@ abbrev pub name2 : Known → KnownLogin → KnownStage → Reply
 name2 known login (Loading pin) = moves (told_of_key known login pin) (table.name2 tt (Loading pin))
 name2 known login stage = NotDue
 
+-- why a nonce isn't used with a count: it isn't known, or it was used with that count or a greater one
+abbrev pub use_refusal : Result (Unit {0}) SpendFault → Option Outcome
+use_refusal (Ok used) = None
+use_refusal (Err faults.Stale) = Some outcomes.Stale
+use_refusal (Err (faults.Replayed last)) = Some (outcomes.Replayed last)
+
+-- the same of what is shown; a header of Digest uses the nonce that it names, which need not be the login's own
+abbrev pub shown_refusal : Nonces → Evidence → Option Outcome
+shown_refusal nonces (evidences.Digest reply method target) = use_refusal (spending (last_count nonces reply.nonce) reply.nc)
+shown_refusal nonces _ = None
+
+-- the login has shown something, or it is told why that isn't accepted
+abbrev pub shown_or : Evidence → KnownStage → Option Outcome → Reply
+shown_or evidence stage None = moves outcomes.Fine (table.check1 evidence stage)
+shown_or evidence stage (Some refusal) = Stays refusal
+
 -- Check1: a named login shows something of its mechanism
-abbrev pub check1 : KnownLogin → Evidence → KnownStage → Reply
-check1 login evidence (Named pin key) =
+abbrev pub check1 : Nonces → KnownLogin → Evidence → KnownStage → Reply
+check1 nonces login evidence (Named pin key) =
     if is_evidence_of login.mech evidence
-    then moves outcomes.Fine (table.check1 evidence (Named pin key))
+    then shown_or evidence (Named pin key) (shown_refusal nonces evidence)
     else Stays (outcomes.Mechanism login.mech)
-check1 login evidence stage = NotDue
+check1 nonces login evidence stage = NotDue
+
+-- the nonces after something that was shown: the one that a header names has the header's count
+abbrev pub used : Nonces → Evidence → Nonces
+used nonces (evidences.Digest reply method target) = with_count nonces reply.nonce reply.nc
+used nonces _ = nonces
+
+-- the nonces after a step with this outcome; a use counts whatever the verdict says later
+abbrev pub used_by : Nonces → Event → Outcome → Nonces
+used_by nonces (events.Check1 c serial evidence) outcomes.Fine = used nonces evidence
+used_by nonces _ _ = nonces
 
 -- Check2: what was shown is judged with the key of what was pinned
 abbrev pub check2 : Known → KnownLogin → KnownStage → Reply
@@ -155,16 +196,16 @@ abbrev pub fail : KnownStage → Reply
 fail stage = moves outcomes.Fine (table.fail stage)
 
 -- what a step does to the login that it is on
-abbrev pub reply : Known → KnownLogin → Event → Reply
-reply known login (events.Name1 c claim) = name1 known login claim login.stage
-reply known login (events.Name2 c serial brought) = name2 known login login.stage
-reply known login (events.Check1 c serial evidence) = check1 login evidence login.stage
-reply known login (events.Check2 c serial brought) = check2 known login login.stage
-reply known login (events.Authorize c) = authorize known login.stage
-reply known login (events.Allows c wanted) = allows known wanted login.stage
-reply known login (events.Succeed c) = succeed known login.stage
-reply known login (events.Fail c) = fail login.stage
-reply known login _ = NotDue
+abbrev pub reply : Known → Nonces → KnownLogin → Event → Reply
+reply known nonces login (events.Name1 c claim) = name1 known login claim login.stage
+reply known nonces login (events.Name2 c serial brought) = name2 known login login.stage
+reply known nonces login (events.Check1 c serial evidence) = check1 nonces login evidence login.stage
+reply known nonces login (events.Check2 c serial brought) = check2 known login login.stage
+reply known nonces login (events.Authorize c) = authorize known login.stage
+reply known nonces login (events.Allows c wanted) = allows known wanted login.stage
+reply known nonces login (events.Succeed c) = succeed known login.stage
+reply known nonces login (events.Fail c) = fail login.stage
+reply known nonces login _ = NotDue
 
 -- the serial that a step carries: it is one of the open with that serial, and of no later open of the same id
 abbrev pub carried : Event → Option ℕ

@@ -1,21 +1,25 @@
 //! Checking a login in two steps: what it shows, and whether that proves its key.
 
-ghost use Rattle.std.specs.Prelude.{◌≡◌, true, false, Some, IsSome, IsTrue, IfSome};
+ghost use Rattle.std.specs.Prelude.{◌≡◌, ℕ, true, Option, Some, None, Err, IsSome, IsTrue, IfSome};
 ghost use Rattle.ely_domain.specs.Contexts.{HoldsIts, IsReply, StaysSound, read_of, seen_login};
 ghost use Rattle.ely_domain.specs.Costs.{RoseBy, proof_cost, check_cost};
-ghost use Rattle.ely_domain.specs.Given.{Given};
 ghost use Rattle.ely_domain.specs.Identities.{Known};
 ghost use Rattle.ely_domain.specs.Jobs.{IsBrought, message_job, check_job, job_at};
+ghost use Rattle.ely_domain.specs.declared.event.Event.{Event};
+ghost use Rattle.ely_job.specs.Digests.{is_digest, digest_hash};
 ghost use Rattle.ely_job.specs.Jobs.{is_scram, judged_by};
-ghost use Rattle.ely_domain.specs.Steps.{is_evidence_of, check1, check2};
-ghost use Rattle.ely_domain.specs.Verdicts.{exchange, server_first, message_told, verdict_told, verdict};
+ghost use Rattle.ely_domain.specs.Steps.{is_evidence_of, use_refusal, shown_refusal, used, used_by, check1, check2};
+ghost use Rattle.ely_domain.specs.Verdicts.{said_by, server_first, message_told, header_told, verdict_told, verdict};
 
+use crate::naming::is_alg_of;
 use ely_base::Bytes;
 use ely_config::Config;
 use ely_context::{Context, Naming};
 use ely_cred::Ready;
+use ely_digest::{NonceTable, SpendFault};
+use ely_digest_msg::DigestReply;
 use ely_hash::Steps;
-use ely_job::{Done, Verdict, discard, password_verdict, scram_verdict};
+use ely_job::{Done, Verdict, digest_judgement, discard, password_verdict, scram_verdict};
 use ely_row::Mech;
 use ely_scram_msg::ClientLast;
 use ely_script::{Claim, Evidence, Outcome, StateWord};
@@ -29,19 +33,34 @@ pub(crate) fn is_evidence_of(mech: Mech, evidence: &Evidence) -> bool
     match (mech, evidence) {
         (Mech::Plain, Evidence::Plain { .. }) => true,
         (Mech::ScramSha1 | Mech::ScramSha256, Evidence::Scram(_)) => true,
+        (_, Evidence::Digest { reply, .. }) => is_alg_of(mech, reply.alg),
         _ => false,
     }
 }
 
-/// What a login is told that shows something of another mechanism than its own.
-fn of_other_mech(context: &Context) -> Outcome
-    ensures { (evidence : Evidence) → is_evidence_of context.now.mech evidence ≡ false
-        → IsReply (check1 (seen_login context.now) evidence (seen_login context.now).stage)
-        Outcome.State context.now result context.now }
+/// Why a use of a nonce isn't accepted.
+fn use_refusal(fault: SpendFault) -> Outcome
+    ensures { Some result ≡ use_refusal (Err fault) }
 {
-    match context.state() {
-        StateWord::Named => Outcome::Mechanism(context.mech()),
-        state => Outcome::State(state),
+    match fault {
+        SpendFault::Stale => Outcome::Stale,
+        SpendFault::Replayed(last) => Outcome::Replayed(last),
+    }
+}
+
+/// Uses the nonce that a header of Digest names with the header's count, or says why that isn't accepted. What another
+/// mechanism shows uses none. It takes no memory.
+fn use_nonce(nonces: &mut NonceTable, evidence: &Evidence) -> Option<Outcome>
+    ensures refusal { result ≡ shown_refusal nonces.old evidence.now }
+    ensures used { result ≡ None → nonces.new ≡ used nonces.old evidence.now }
+    ensures err { IsSome result → nonces.new ≡ nonces.old }
+{
+    let Evidence::Digest { reply, .. } = evidence else {
+        return None;
+    };
+    match nonces.spend(reply.nonce.bytes(), reply.nc) {
+        Ok(()) => None,
+        Err(fault) => Some(use_refusal(fault)),
     }
 }
 
@@ -53,15 +72,26 @@ fn told_state<E: Drop>(refusal: (StateWord, E)) -> StateWord
     state
 }
 
-/// Keeps what a named login shows.
-pub(crate) fn check1(context: &mut Context, evidence: Evidence) -> Outcome
+/// Keeps what a named login shows, and uses the nonce that it names.
+pub(crate) fn check1(nonces: &mut NonceTable, context: &mut Context, evidence: Evidence) -> Outcome
     ensures reply { IsReply
-        (check1 (seen_login context.old) evidence (seen_login context.old).stage)
+        (check1 nonces.old (seen_login context.old) evidence (seen_login context.old).stage)
         Outcome.State context.old result context.new }
+    ensures used { (c : ℕ) (serial : Option ℕ)
+        → nonces.new ≡ used_by nonces.old (Event.Check1 c serial evidence) result }
     ensures sound { (known : Known) → StaysSound known context.old context.new }
 {
+    let StateWord::Named = context.state() else {
+        discard(evidence);
+        return Outcome::State(context.state());
+    };
     if !is_evidence_of(context.mech(), &evidence) {
-        return of_other_mech(context);
+        discard(evidence);
+        return Outcome::Mechanism(context.mech());
+    }
+    if let Some(refusal) = use_nonce(nonces, &evidence) {
+        discard(evidence);
+        return refusal;
     }
     match context.check1(evidence) {
         Ok(()) => Outcome::Fine,
@@ -79,6 +109,9 @@ fn told(verdict: Verdict) -> Outcome
         Verdict::Nonce => Outcome::Nonce,
         Verdict::Proof => Outcome::Proof,
         Verdict::Password => Outcome::Password,
+        Verdict::Realm => Outcome::Realm,
+        Verdict::Uri => Outcome::Uri,
+        Verdict::Response => Outcome::Response,
     }
 }
 
@@ -109,36 +142,51 @@ fn judge_message<L: Ledger>(
     }
 }
 
+/// The answer to a header of Digest.
+fn judge_header(
+    ready: &Ready,
+    digest_realm: &Bytes,
+    reply: &DigestReply,
+    method: &Bytes,
+    target: &Bytes,
+) -> Outcome
+    requires { IsTrue (is_digest ready.now.mech) }
+    ensures { result ≡ header_told (digest_hash ready.now.mech) ready.now.key
+        reply.now method.now target.now digest_realm.now }
+{
+    let (method, target) = (method.bytes(), target.bytes());
+    told(digest_judgement(ready, reply, method, target, digest_realm.bytes()))
+}
+
 /// The answer to what was shown, by the key and what was said before.
 fn judge<L: Ledger>(
     naming: &Naming,
+    digest_realm: &Bytes,
     nonce: &Bytes,
     claim: &Claim,
     evidence: &Evidence,
     steps: &mut Steps<L>,
 ) -> Outcome
     requires { is_evidence_of naming.now.ready.mech evidence.now ≡ true }
-    ensures value { (given : Given)
-        → naming.now.server_first ≡ server_first (exchange given nonce.now claim.now) naming.now.ready
-        → result ≡ verdict (exchange given nonce.now claim.now) (Some naming.now.ready) evidence.now }
+    ensures value { naming.now.server_first
+        ≡ server_first (said_by digest_realm.now nonce.now claim.now) naming.now.ready
+        → result ≡ verdict (said_by digest_realm.now nonce.now claim.now)
+        (Some naming.now.ready) evidence.now }
     ensures cost { RoseBy steps.old steps.new (proof_cost (Some naming.now.ready) evidence.now) }
 {
+    let ready = &naming.ready;
     match evidence {
-        Evidence::Plain { password } => told(password_verdict::<L>(
-            &naming.ready,
-            password.bytes(),
-            steps,
-        )),
-        Evidence::Scram(last) => {
-            judge_message(
-                &naming.ready,
-                nonce,
-                claim,
-                &naming.server_first,
-                last,
-                steps,
-            )
+        Evidence::Plain { password } => {
+            told(password_verdict::<L>(ready, password.bytes(), steps))
         }
+        Evidence::Scram(last) => {
+            judge_message(ready, nonce, claim, &naming.server_first, last, steps)
+        }
+        Evidence::Digest {
+            reply,
+            method,
+            target,
+        } => judge_header(ready, digest_realm, reply, method, target),
     }
 }
 
@@ -169,39 +217,41 @@ fn brought_judgement(
 /// The verdict that is brought, where it came of the judgement that is due.
 fn brought_verdict(
     naming: &Naming,
+    digest_realm: &Bytes,
     nonce: &Bytes,
     claim: &Claim,
     evidence: &Evidence,
     done: Option<Done>,
 ) -> Option<Verdict>
-    ensures brought { (given : Given)
-        → naming.now.server_first ≡ server_first (exchange given nonce.now claim.now) naming.now.ready
-        → IsBrought done (check_job (exchange given nonce.now claim.now) naming.now.ready evidence.now)
-        → IsSome result }
-    ensures value { (given : Given)
-        → naming.now.server_first ≡ server_first (exchange given nonce.now claim.now) naming.now.ready
+    ensures brought { naming.now.server_first
+        ≡ server_first (said_by digest_realm.now nonce.now claim.now) naming.now.ready
+        → IsBrought done (check_job (said_by digest_realm.now nonce.now claim.now)
+        naming.now.ready evidence.now) → IsSome result }
+    ensures value { naming.now.server_first
+        ≡ server_first (said_by digest_realm.now nonce.now claim.now) naming.now.ready
         → IfSome result (λ found. verdict_told found
-        ≡ verdict (exchange given nonce.now claim.now) (Some naming.now.ready) evidence.now) }
+        ≡ verdict (said_by digest_realm.now nonce.now claim.now)
+        (Some naming.now.ready) evidence.now) }
 {
     let done = done?;
+    let ready = &naming.ready;
     match evidence {
-        Evidence::Plain { password } => done.into_guess(&naming.ready, password),
+        Evidence::Plain { password } => done.into_guess(ready, password),
         Evidence::Scram(last) => {
-            brought_judgement(
-                &naming.ready,
-                nonce,
-                claim,
-                &naming.server_first,
-                last,
-                done,
-            )
+            brought_judgement(ready, nonce, claim, &naming.server_first, last, done)
         }
+        Evidence::Digest {
+            reply,
+            method,
+            target,
+        } => done.into_digest(ready, reply, method, target, digest_realm),
     }
 }
 
 /// The answer to what was shown: that of the verdict that is brought, or else it is judged here.
 fn judge_by<L: Ledger>(
     naming: &Naming,
+    digest_realm: &Bytes,
     nonce: &Bytes,
     claim: &Claim,
     evidence: &Evidence,
@@ -209,18 +259,19 @@ fn judge_by<L: Ledger>(
     steps: &mut Steps<L>,
 ) -> Outcome
     requires { is_evidence_of naming.now.ready.mech evidence.now ≡ true }
-    ensures value { (given : Given)
-        → naming.now.server_first ≡ server_first (exchange given nonce.now claim.now) naming.now.ready
-        → result ≡ verdict (exchange given nonce.now claim.now) (Some naming.now.ready) evidence.now }
+    ensures value { naming.now.server_first
+        ≡ server_first (said_by digest_realm.now nonce.now claim.now) naming.now.ready
+        → result ≡ verdict (said_by digest_realm.now nonce.now claim.now)
+        (Some naming.now.ready) evidence.now }
     ensures cost { RoseBy steps.old steps.new (proof_cost (Some naming.now.ready) evidence.now) }
-    ensures brought { (given : Given)
-        → naming.now.server_first ≡ server_first (exchange given nonce.now claim.now) naming.now.ready
-        → IsBrought done (check_job (exchange given nonce.now claim.now) naming.now.ready evidence.now)
-        → steps.new ≡ steps.old }
+    ensures brought { naming.now.server_first
+        ≡ server_first (said_by digest_realm.now nonce.now claim.now) naming.now.ready
+        → IsBrought done (check_job (said_by digest_realm.now nonce.now claim.now)
+        naming.now.ready evidence.now) → steps.new ≡ steps.old }
 {
-    match brought_verdict(naming, nonce, claim, evidence, done) {
+    match brought_verdict(naming, digest_realm, nonce, claim, evidence, done) {
         Some(verdict) => told(verdict),
-        None => judge(naming, nonce, claim, evidence, steps),
+        None => judge(naming, digest_realm, nonce, claim, evidence, steps),
     }
 }
 
@@ -249,7 +300,8 @@ pub(crate) fn check2<L: Ledger>(
         discard(done);
         return Outcome::Gone;
     };
-    let outcome = judge_by(naming, context.nonce(), &pin.claim, evidence, done, steps);
+    let (realm, nonce) = (config.digest_realm(), context.nonce());
+    let outcome = judge_by(naming, realm, nonce, &pin.claim, evidence, done, steps);
     match context.check2(outcome.is_accepted()) {
         Ok(()) => outcome,
         Err(_) => Outcome::Gone,

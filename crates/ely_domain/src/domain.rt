@@ -1,33 +1,35 @@
 //! The domain: one step of it is one step of the machine that it stands for.
 
-ghost use Rattle.std.specs.Prelude.{◌≡◌, ◌<◌, ◌≤◌, ◌^◌, ◌-◌, [], IfOk, OnErr, IsOk, None, length};
+ghost use Rattle.std.specs.Prelude.{◌≡◌, ◌<◌, ◌≤◌, ◌^◌, ◌-◌, IfOk, OnErr, IsOk, None, length};
 ghost use Rattle.ely_context.specs.Logins.{state_at};
 ghost use Rattle.ely_domain.specs.Contexts.{IsSound, read_of, seen_live};
 ghost use Rattle.ely_domain.specs.Costs.{RoseBy, login_cost, step_cost};
 ghost use Rattle.ely_domain.specs.Domains.{IsLoginStep, TakesNoMemory, first_seen};
-ghost use Rattle.ely_domain.specs.Given.{Given, realms};
+ghost use Rattle.ely_domain.specs.Given.{Given, loadings, realms};
 ghost use Rattle.ely_domain.specs.Jobs.{Brings, BringsResult, job_of, job_behind};
 ghost use Rattle.ely_domain.specs.Handing.{job_ahead};
 ghost use Rattle.ely_domain.specs.Keeping.{Kept, word_due, stands_for, kept_after};
 ghost use Rattle.ely_domain.specs.Lines.{carrier, serial_given, serial_at};
 ghost use Rattle.ely_domain.specs.declared.event.Event.{Event};
-ghost use Rattle.ely_domain.specs.Machine.{Machine, change, begin, opening_fault, closed, answered, with_answered, known, step};
+ghost use Rattle.ely_domain.specs.Machine.{Machine, change, begin, closed, answered, with_answered, known, step};
 ghost use Rattle.ely_table.specs.Faults.{fault};
 
 use crate::event::{Answer, Event};
 use crate::handouts::Handouts;
 use crate::jobs::{job_ahead, job_of};
+use crate::loading::first_tables;
 use crate::login_step::login_step;
-use crate::naming::main_realm;
 use crate::nonce::nonce_of;
-use ely_base::{Bytes, CtxId, Name, NoMemory, Refused, Serial, Version};
+use crate::opening::{alg_of, challenge, open, opening_fault};
+use ely_base::{Bytes, CtxId, NoMemory, Refused, Serial, Version};
 use ely_config::Config;
-use ely_context::{Context, Logins};
+use ely_context::Logins;
+use ely_digest::NonceTable;
 use ely_hash::Steps;
 use ely_job::{Job, discard};
 use ely_row::{Edit, Mech};
 use ely_script::{CacheWord, Outcome, StateWord};
-use ely_table::{RealmClass, Tables};
+use ely_table::Tables;
 use std::alloc::Global;
 use std::marker::Model;
 use std::sync::ledger::Ledger;
@@ -35,16 +37,17 @@ use std::sync::ledger::Ledger;
 /// The most edits of a journal.
 pub const JOURNAL_LIMIT: u32 = 131072;
 
-/// The most logins that are live at once.
-const LOGINS_LIMIT: usize = 4096;
+/// The most nonces of Digest that are known at once; for a further one the oldest is forgotten.
+const NONCES_LIMIT: u32 = 4096;
 
-/// The tables of the realms with their journal, the configuration, and the logins that are live with what the authorized
-/// ones among them hand out.
+/// The tables of the realms with their journal, the configuration, the logins that are live, the nonces of Digest that were
+/// issued, and what the authorized logins hand out.
 #[derive(Drop)]
 pub struct Domain {
     tables: Tables,
     config: Config,
     logins: Logins,
+    nonces: NonceTable,
     handouts: Handouts,
     opened: u64,
 }
@@ -59,37 +62,12 @@ impl Model for Domain {
 
     ghost view = { λ d. record {
       given = record { config = d.config; limit = d.tables.limit };
-      machine = record { edits = d.tables.journal; live = seen_live d.logins; opened = d.opened };
+      machine = record { edits = d.tables.journal; live = seen_live d.logins d.nonces; opened = d.opened };
       kept = tt;
     } };
 
     ghost invariant = { λ d. (d.tables.realms ≡ realms (record { config = d.config; limit = d.tables.limit }))
         × IsSound (read_of d.config d.tables) d.logins d.handouts };
-}
-
-/// The tables of the one realm that there is.
-fn main_tables(alloc: Global, journal_limit: u32) -> Result<Tables, NoMemory>
-    requires some { 1 ≤ journal_limit }
-    requires most { journal_limit ≤ 131072 }
-    ensures { (given : Given) → IfOk result (λ tables. tables
-        ≡ record { realms = realms given; limit = journal_limit; journal = [] }) }
-{
-    let mut realms: Vec<(Name, RealmClass)> = Vec::new(alloc);
-    realms.push((main_realm(alloc)?, RealmClass::Modifiable))?;
-    Tables::new(alloc, realms, journal_limit)
-}
-
-/// Why no login can be opened under this id.
-fn opening_fault(logins: &Logins, id: CtxId) -> Option<Outcome>
-    ensures { result ≡ opening_fault (seen_live logins.now) id }
-{
-    if logins.find(id).is_some() {
-        return Some(Outcome::InUse);
-    }
-    if logins.len() >= LOGINS_LIMIT {
-        return Some(Outcome::ContextsFull);
-    }
-    None
 }
 
 /// The word behind an outcome, where no realm keeps keys.
@@ -104,17 +82,20 @@ fn word_due(outcome: &Outcome) -> CacheWord
 }
 
 impl Domain {
-    /// A domain of this configuration without edits and logins, whose journal takes `journal_limit` edits, from 1 to 131,072.
+    /// A domain of this configuration without logins. Its journal takes `journal_limit` edits, from 1 to 131,072, and begins
+    /// with one reload of each realm that has texts, for which there has to be room.
     pub fn new(alloc: Global, config: Config, journal_limit: u32) -> Result<Domain, NoMemory>
         requires some { 1 ≤ journal_limit }
         requires most { journal_limit ≤ 131072 }
+        requires room { length (loadings config.realms) ≤ journal_limit }
         ensures { IfOk result (λ domain. domain
             ≡ first_seen (record { config = config; limit = journal_limit })) }
     {
         Ok(Domain {
-            tables: main_tables(alloc, journal_limit)?,
+            tables: first_tables(alloc, &config, journal_limit)?,
             config,
             logins: Logins::new(alloc),
+            nonces: NonceTable::new(alloc, NONCES_LIMIT)?,
             handouts: Handouts::new(alloc),
             opened: 0,
         })
@@ -180,17 +161,17 @@ impl Domain {
         ensures given { self.new.given ≡ self.old.given }
         ensures err { OnErr result (self.new ≡ self.old) }
     {
-        if let Some(fault) = opening_fault(&self.logins, id) {
-            return Ok(fault);
-        }
         let serial = Serial(self.opened + 1);
         let nonce = nonce_of(alloc, &self.config, mech, self.opened + 1, brought)?;
-        self.logins.open(id, Context::begin(serial, mech, nonce))?;
+        let alg = alg_of(mech);
+        if let Some(fault) = opening_fault(&self.logins, &self.nonces, id, &nonce, alg) {
+            return Ok(fault);
+        }
+        let challenge = challenge(alloc, &self.config, &nonce, alg)?;
+        let (logins, nonces) = (&mut self.logins, &mut self.nonces);
+        open(alloc, logins, nonces, id, serial, mech, nonce)?;
         self.opened += 1;
-        Ok(Outcome::Opened {
-            serial,
-            challenge: None,
-        })
+        Ok(Outcome::Opened { serial, challenge })
     }
 
     /// Closes a login in whatever state it is.
@@ -233,6 +214,7 @@ impl Domain {
             &self.config,
             &self.tables,
             &mut self.logins,
+            &mut self.nonces,
             &mut self.handouts,
             id,
             event,
@@ -309,7 +291,14 @@ impl Domain {
             ≡ job_ahead (known self.now.given self.now.machine) self.now.machine.live event.now) }
         ensures takes_no_memory { TakesNoMemory event.now → IsOk result }
     {
-        job_ahead(alloc, &self.config, &self.tables, &self.logins, event)
+        job_ahead(
+            alloc,
+            &self.config,
+            &self.tables,
+            &self.logins,
+            &self.nonces,
+            event,
+        )
     }
 
     /// One step: the answer is the machine's, and the domain stands for the machine after it. The counter rises by what the

@@ -105,6 +105,7 @@ fn edit_word(edit: &Edit) -> StepWord
         Edit::DropCred { .. } => StepWord::DropCred,
         Edit::SetAttr { .. } => StepWord::SetAttr,
         Edit::DropAttr { .. } => StepWord::DropAttr,
+        Edit::Reload { .. } => StepWord::Reload,
     }
 }
 

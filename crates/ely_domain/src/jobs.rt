@@ -1,14 +1,15 @@
 //! The jobs of logins: what can be done off the domain.
 
-ghost use Rattle.std.specs.Prelude.{◌≡◌, true, IfOk, IsOk, IsSome, IsTrue};
+ghost use Rattle.std.specs.Prelude.{◌≡◌, true, is_some, IfOk, IsOk, IsSome, IsTrue};
 ghost use Rattle.ely_cred.specs.Keys.{chosen};
-ghost use Rattle.ely_domain.specs.Contexts.{HoldsIts, HoldTheirs, read_of, seen_live, seen_login};
+ghost use Rattle.ely_domain.specs.Contexts.{AreOf, HoldsIts, HoldTheirs, read_of, seen_live, seen_login};
 ghost use Rattle.ely_domain.specs.Domains.{TakesNoMemory};
-ghost use Rattle.ely_domain.specs.Given.{Given};
+ghost use Rattle.ely_digest.specs.Nonces.{Nonces};
 ghost use Rattle.ely_domain.specs.Handing.{name1_job, check1_job, job_by, job_ahead};
 ghost use Rattle.ely_domain.specs.Jobs.{message_job, check_job, job_at, job_of};
-ghost use Rattle.ely_domain.specs.Steps.{is_evidence_of};
-ghost use Rattle.ely_domain.specs.Verdicts.{exchange, server_first};
+ghost use Rattle.ely_domain.specs.Steps.{is_evidence_of, shown_refusal};
+ghost use Rattle.ely_domain.specs.Verdicts.{said_by, server_first};
+ghost use Rattle.ely_job.specs.Digests.{is_digest};
 ghost use Rattle.ely_job.specs.Jobs.{is_scram};
 ghost use Rattle.ely_job.specs.declared.job.Work.TheVariants as works;
 
@@ -19,6 +20,8 @@ use ely_base::{Bytes, CtxId, NoMemory, Serial};
 use ely_config::Config;
 use ely_context::{Context, Logins, Naming, Pin};
 use ely_cred::Ready;
+use ely_digest::NonceTable;
+use ely_digest_msg::DigestReply;
 use ely_job::Job;
 use ely_row::Mech;
 use ely_scram_msg::{ClientFirst, ClientLast};
@@ -34,7 +37,7 @@ fn derive_job(alloc: Global, config: &Config, pin: &Pin, mech: Mech) -> Result<J
 {
     let place = pin.place.copy(alloc)?;
     let row = pin.row.share()?;
-    let params = config.params.copy(alloc)?;
+    let params = config.params().copy(alloc)?;
     Ok(Job::derive(place, row, mech, params))
 }
 
@@ -91,31 +94,55 @@ fn message_job(
     }
 }
 
+/// The judgement of a header of Digest.
+fn header_job(
+    alloc: Global,
+    ready: &Ready,
+    digest_realm: &Bytes,
+    reply: &DigestReply,
+    method: &Bytes,
+    target: &Bytes,
+) -> Result<Job, NoMemory>
+    requires { IsTrue (is_digest ready.now.mech) }
+    ensures { IfOk result (λ job. job
+        ≡ works.Digest ready.now reply.now method.now target.now digest_realm.now) }
+{
+    let ready = ready.copy(alloc)?;
+    let reply = reply.copy(alloc)?;
+    let method = method.copy(alloc)?;
+    let target = target.copy(alloc)?;
+    let digest_realm = digest_realm.copy(alloc)?;
+    Ok(Job::digest(ready, reply, method, target, digest_realm))
+}
+
 /// The job of a checked login: the verdict on what it showed.
 fn check_job(
     alloc: Global,
     naming: &Naming,
+    digest_realm: &Bytes,
     nonce: &Bytes,
     claim: &Claim,
     evidence: &Evidence,
 ) -> Result<Option<Job>, NoMemory>
     requires { is_evidence_of naming.now.ready.mech evidence.now ≡ true }
-    ensures { (given : Given)
-        → naming.now.server_first ≡ server_first (exchange given nonce.now claim.now) naming.now.ready
-        → IfOk result (λ job. job
-        ≡ check_job (exchange given nonce.now claim.now) naming.now.ready evidence.now) }
+    ensures { naming.now.server_first
+        ≡ server_first (said_by digest_realm.now nonce.now claim.now) naming.now.ready
+        → IfOk result (λ job. job ≡ check_job (said_by digest_realm.now nonce.now claim.now)
+        naming.now.ready evidence.now) }
 {
+    let ready = &naming.ready;
     match evidence {
-        Evidence::Plain { password } => Ok(Some(guess_job(alloc, &naming.ready, password)?)),
+        Evidence::Plain { password } => Ok(Some(guess_job(alloc, ready, password)?)),
         Evidence::Scram(last) => {
-            message_job(
-                alloc,
-                &naming.ready,
-                nonce,
-                claim,
-                &naming.server_first,
-                last,
-            )
+            message_job(alloc, ready, nonce, claim, &naming.server_first, last)
+        }
+        Evidence::Digest {
+            reply,
+            method,
+            target,
+        } => {
+            let job = header_job(alloc, ready, digest_realm, reply, method, target)?;
+            Ok(Some(job))
         }
     }
 }
@@ -139,7 +166,8 @@ fn job_at(
     match context.checking() {
         None => Ok(None),
         Some((pin, naming, evidence)) => {
-            check_job(alloc, naming, context.nonce(), &pin.claim, evidence)
+            let (realm, nonce) = (config.digest_realm(), context.nonce());
+            check_job(alloc, naming, realm, nonce, &pin.claim, evidence)
         }
     }
 }
@@ -154,8 +182,8 @@ pub(crate) fn job_of(
     serial: Serial,
 ) -> Result<Option<Job>, NoMemory>
     requires { HoldTheirs (read_of config.now tables.now) logins.now }
-    ensures { IfOk result (λ job. job
-        ≡ job_of (read_of config.now tables.now) (seen_live logins.now) id serial) }
+    ensures { (nonces : Nonces) → IfOk result (λ job. job
+        ≡ job_of (read_of config.now tables.now) (seen_live logins.now nonces) id serial) }
 {
     match logins.find(id) {
         None => Ok(None),
@@ -177,16 +205,30 @@ fn name1_job(
     context: &Context,
     claim: &Claim,
 ) -> Result<Option<Job>, NoMemory>
+    requires { AreOf config.now tables.now }
     ensures { IfOk result (λ job. job ≡ name1_job (read_of config.now tables.now)
         (seen_login context.now) claim.now (seen_login context.now).stage) }
 {
     let StateWord::Fresh = context.state() else {
         return Ok(None);
     };
-    let params = config.params.copy(alloc)?;
+    let params = config.params().copy(alloc)?;
     match found_place(alloc, config, tables, context.mech(), claim)? {
         Ok(found) => Ok(Some(Job::derive(found.place, found.row, context.mech(), params))),
         Err(_) => Ok(None),
+    }
+}
+
+/// Whether the nonce that a header of Digest names can't be used with the header's count.
+fn is_refused(nonces: &NonceTable, evidence: &Evidence) -> bool
+    ensures { result ≡ is_some (shown_refusal nonces.now evidence.now) }
+{
+    let Evidence::Digest { reply, .. } = evidence else {
+        return false;
+    };
+    match nonces.holds(reply.nonce.bytes()) {
+        None => true,
+        Some(last) => reply.nc <= last,
     }
 }
 
@@ -195,21 +237,23 @@ fn check1_job(
     alloc: Global,
     config: &Config,
     tables: &Tables,
+    nonces: &NonceTable,
     context: &Context,
     evidence: &Evidence,
 ) -> Result<Option<Job>, NoMemory>
     requires { HoldsIts (read_of config.now tables.now)
         context.now.mech context.now.nonce context.now.stage }
-    ensures { IfOk result (λ job. job ≡ check1_job (read_of config.now tables.now)
+    ensures { IfOk result (λ job. job ≡ check1_job (read_of config.now tables.now) nonces.now
         (seen_login context.now) evidence.now (seen_login context.now).stage) }
 {
     let Some((pin, naming)) = context.named() else {
         return Ok(None);
     };
-    if !is_evidence_of(context.mech(), evidence) {
+    if !is_evidence_of(context.mech(), evidence) || is_refused(nonces, evidence) {
         return Ok(None);
     }
-    check_job(alloc, naming, context.nonce(), &pin.claim, evidence)
+    let (realm, nonce) = (config.digest_realm(), context.nonce());
+    check_job(alloc, naming, realm, nonce, &pin.claim, evidence)
 }
 
 /// The job of a login behind a step of it, if that is accepted.
@@ -217,19 +261,21 @@ fn job_by(
     alloc: Global,
     config: &Config,
     tables: &Tables,
+    nonces: &NonceTable,
     context: &Context,
     event: &Event,
 ) -> Result<Option<Job>, NoMemory>
-    requires { HoldsIts (read_of config.now tables.now)
+    requires tables { AreOf config.now tables.now }
+    requires holds { HoldsIts (read_of config.now tables.now)
         context.now.mech context.now.nonce context.now.stage }
     ensures { IfOk result (λ job. job
-        ≡ job_by (read_of config.now tables.now) event.now (seen_login context.now)) }
+        ≡ job_by (read_of config.now tables.now) nonces.now event.now (seen_login context.now)) }
 {
     match event {
         Event::Name1 { claim, .. } => name1_job(alloc, config, tables, context, claim),
         Event::Check1 { evidence, .. } => {
             if event.is_carried(context.serial()) {
-                check1_job(alloc, config, tables, context, evidence)
+                check1_job(alloc, config, tables, nonces, context, evidence)
             } else {
                 Ok(None)
             }
@@ -244,11 +290,13 @@ pub(crate) fn job_ahead(
     config: &Config,
     tables: &Tables,
     logins: &Logins,
+    nonces: &NonceTable,
     event: &Event,
 ) -> Result<Option<Job>, NoMemory>
-    requires { HoldTheirs (read_of config.now tables.now) logins.now }
+    requires tables { AreOf config.now tables.now }
+    requires hold { HoldTheirs (read_of config.now tables.now) logins.now }
     ensures job { IfOk result (λ job. job
-        ≡ job_ahead (read_of config.now tables.now) (seen_live logins.now) event.now) }
+        ≡ job_ahead (read_of config.now tables.now) (seen_live logins.now nonces.now) event.now) }
     ensures takes_no_memory { TakesNoMemory event.now → IsOk result }
 {
     let Some(id) = event.carrier() else {
@@ -256,6 +304,6 @@ pub(crate) fn job_ahead(
     };
     match logins.find(id) {
         None => Ok(None),
-        Some(context) => job_by(alloc, config, tables, context, event),
+        Some(context) => job_by(alloc, config, tables, nonces, context, event),
     }
 }

@@ -10,9 +10,11 @@ mod granting;
 mod handouts;
 mod jobs;
 mod laws;
+mod loading;
 mod login_step;
 mod naming;
 mod nonce;
+mod opening;
 mod part;
 mod prepared;
 

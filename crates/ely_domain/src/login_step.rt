@@ -2,12 +2,12 @@
 
 ghost use Rattle.std.specs.Prelude.{◌≡◌, ℕ, ◌==◌, false, true, IfOk, OnErr, IsOk, Some};
 ghost use Rattle.ely_context.specs.Logins.{login_of};
-ghost use Rattle.ely_domain.specs.Contexts.{Answers, IsReply, IsSound, IsSoundAt, read_of, seen_live, seen_login};
+ghost use Rattle.ely_domain.specs.Contexts.{Answers, AreOf, IsReply, IsSound, IsSoundAt, read_of, seen_live, seen_login};
 ghost use Rattle.ely_domain.specs.Costs.{RoseBy, cost_for, login_cost, reply_cost};
 ghost use Rattle.ely_domain.specs.Domains.{IsLoginStep, TakesNoMemory};
 ghost use Rattle.ely_domain.specs.Jobs.{BringsTo, Brings};
 ghost use Rattle.ely_domain.specs.Machine.{answered};
-ghost use Rattle.ely_domain.specs.Steps.{reply, not_due};
+ghost use Rattle.ely_domain.specs.Steps.{reply, used_by, not_due};
 
 use crate::checking::{check1, check2};
 use crate::event::Event;
@@ -17,6 +17,7 @@ use crate::naming::{name1, name2};
 use ely_base::{CtxId, NoMemory};
 use ely_config::Config;
 use ely_context::{Context, Logins};
+use ely_digest::NonceTable;
 use ely_hash::Steps;
 use ely_job::discard;
 use ely_script::Outcome;
@@ -29,6 +30,7 @@ fn move_login<L: Ledger>(
     alloc: Global,
     config: &Config,
     tables: &Tables,
+    nonces: &mut NonceTable,
     context: &mut Context,
     handouts: &mut Handouts,
     id: CtxId,
@@ -36,16 +38,19 @@ fn move_login<L: Ledger>(
     steps: &mut Steps<L>,
 ) -> Result<Outcome, NoMemory>
     requires due { IsLoginStep event }
+    requires tables { AreOf config.now tables.now }
     requires sound { IsSoundAt (read_of config.now tables.now)
         (login_of handouts.old id) context.old }
     ensures reply { IfOk result (λ outcome. IsReply
-        (reply (read_of config.now tables.now) (seen_login context.old) event)
+        (reply (read_of config.now tables.now) nonces.old (seen_login context.old) event)
         (not_due event) context.old outcome context.new) }
+    ensures used { IfOk result (λ outcome. nonces.new ≡ used_by nonces.old event outcome) }
     ensures sound { IsSoundAt (read_of config.now tables.now)
         (login_of handouts.new id) context.new }
     ensures others { (c : ℕ) → (c == id) ≡ false
         → login_of handouts.new c ≡ login_of handouts.old c }
-    ensures err { OnErr result ((context.new ≡ context.old) × (handouts.new ≡ handouts.old)) }
+    ensures err { OnErr result
+        ((nonces.new ≡ nonces.old) × (context.new ≡ context.old) × (handouts.new ≡ handouts.old)) }
     ensures takes_no_memory { TakesNoMemory event → IsOk result }
     ensures cost { RoseBy steps.old steps.new
         (reply_cost (read_of config.now tables.now) (seen_login context.old) event) }
@@ -55,7 +60,7 @@ fn move_login<L: Ledger>(
     match event {
         Event::Name1 { claim, .. } => name1(alloc, config, tables, context, claim),
         Event::Name2 { done, .. } => name2(alloc, config, tables, context, done, steps),
-        Event::Check1 { evidence, .. } => Ok(check1(context, evidence)),
+        Event::Check1 { evidence, .. } => Ok(check1(nonces, context, evidence)),
         Event::Check2 { done, .. } => Ok(check2(config, tables, context, done, steps)),
         Event::Authorize { .. } => authorize(alloc, config, tables, context, handouts, id),
         Event::Allows { wanted, .. } => Ok(allows(context, &wanted)),
@@ -72,6 +77,7 @@ fn answer_found<L: Ledger>(
     alloc: Global,
     config: &Config,
     tables: &Tables,
+    nonces: &mut NonceTable,
     context: &mut Context,
     handouts: &mut Handouts,
     id: CtxId,
@@ -79,15 +85,18 @@ fn answer_found<L: Ledger>(
     steps: &mut Steps<L>,
 ) -> Result<Outcome, NoMemory>
     requires due { IsLoginStep event }
+    requires tables { AreOf config.now tables.now }
     requires sound { IsSoundAt (read_of config.now tables.now)
         (login_of handouts.old id) context.old }
     ensures answer { IfOk result (λ outcome.
-        Answers (read_of config.now tables.now) event context.old outcome context.new) }
+        Answers (read_of config.now tables.now) nonces.old event context.old outcome context.new) }
+    ensures used { IfOk result (λ outcome. nonces.new ≡ used_by nonces.old event outcome) }
     ensures sound { IsSoundAt (read_of config.now tables.now)
         (login_of handouts.new id) context.new }
     ensures others { (c : ℕ) → (c == id) ≡ false
         → login_of handouts.new c ≡ login_of handouts.old c }
-    ensures err { OnErr result ((context.new ≡ context.old) × (handouts.new ≡ handouts.old)) }
+    ensures err { OnErr result
+        ((nonces.new ≡ nonces.old) × (context.new ≡ context.old) × (handouts.new ≡ handouts.old)) }
     ensures takes_no_memory { TakesNoMemory event → IsOk result }
     ensures cost { RoseBy steps.old steps.new
         (cost_for (read_of config.now tables.now) event (Some (seen_login context.old))) }
@@ -98,7 +107,9 @@ fn answer_found<L: Ledger>(
         discard(event);
         return Ok(Outcome::Gone);
     }
-    move_login(alloc, config, tables, context, handouts, id, event, steps)
+    move_login(
+        alloc, config, tables, nonces, context, handouts, id, event, steps,
+    )
 }
 
 /// The step of the login with this id.
@@ -108,22 +119,25 @@ pub(crate) fn login_step<L: Ledger>(
     config: &Config,
     tables: &Tables,
     logins: &mut Logins,
+    nonces: &mut NonceTable,
     handouts: &mut Handouts,
     id: CtxId,
     event: Event,
     steps: &mut Steps<L>,
 ) -> Result<Outcome, NoMemory>
     requires due { IsLoginStep event }
+    requires tables { AreOf config.now tables.now }
     requires sound { IsSound (read_of config.now tables.now) logins.old handouts.old }
     ensures answer { IfOk result (λ outcome.
-        answered (read_of config.now tables.now) (seen_live logins.old) event id
-        ≡ record { outcome = outcome; live = seen_live logins.new }) }
+        answered (read_of config.now tables.now) (seen_live logins.old nonces.old) event id
+        ≡ record { outcome = outcome; live = seen_live logins.new nonces.new }) }
     ensures sound { IsSound (read_of config.now tables.now) logins.new handouts.new }
-    ensures err { OnErr result ((logins.new ≡ logins.old) × (handouts.new ≡ handouts.old)) }
+    ensures err { OnErr result
+        ((logins.new ≡ logins.old) × (nonces.new ≡ nonces.old) × (handouts.new ≡ handouts.old)) }
     ensures takes_no_memory { TakesNoMemory event → IsOk result }
     ensures cost { RoseBy steps.old steps.new
-        (login_cost (read_of config.now tables.now) (seen_live logins.old) event id) }
-    ensures brought { Brings (read_of config.now tables.now) (seen_live logins.old) id event
+        (login_cost (read_of config.now tables.now) (seen_live logins.old nonces.old) event id) }
+    ensures brought { Brings (read_of config.now tables.now) (seen_live logins.old nonces.old) id event
         → steps.new ≡ steps.old }
 {
     match logins.find_mut(id) {
@@ -133,7 +147,9 @@ pub(crate) fn login_step<L: Ledger>(
             Ok(outcome)
         }
         Some(context) => {
-            answer_found(alloc, config, tables, context, handouts, id, event, steps)
+            answer_found(
+                alloc, config, tables, nonces, context, handouts, id, event, steps,
+            )
         }
     }
 }

@@ -1,15 +1,15 @@
 //! Naming a login in two steps: who it is, and with which key.
 
-ghost use Rattle.std.specs.Prelude.{◌≡◌, IfOk, IfSome, OnErr, Ok, Option, Some, IsSome};
+ghost use Rattle.std.specs.Prelude.{◌≡◌, ℕ, IfOk, IfSome, OnErr, Ok, Option, Some, IsSome};
 ghost use Rattle.ely_base.specs.Refused.{Gives};
 ghost use Rattle.ely_context.specs.declared.stage.Stage.TheVariants as stages;
 ghost use Rattle.ely_cred.specs.Keys.{chosen, ready_of, ready_cost};
-ghost use Rattle.ely_domain.specs.Contexts.{Finds, HoldsIts, IsReply, IsSoundAt, StaysSound, read_of, seen_login};
+ghost use Rattle.ely_domain.specs.Contexts.{AreOf, Finds, HoldsIts, IsReply, IsSoundAt, StaysSound, read_of, seen_login};
 ghost use Rattle.ely_domain.specs.Costs.{RoseBy, naming_cost};
-ghost use Rattle.ely_domain.specs.Given.{Given, main_realm, place_of};
+ghost use Rattle.ely_domain.specs.Given.{Given, first_realm, place_of};
 ghost use Rattle.ely_domain.specs.Jobs.{IsBrought, job_at};
 ghost use Rattle.ely_job.specs.declared.job.Work.TheVariants as works;
-ghost use Rattle.ely_domain.specs.Steps.{claimed_name, differs, is_other, is_claim_of, serving, announced, name1, name2};
+ghost use Rattle.ely_domain.specs.Steps.{claimed_name, differs, is_other, is_alg_of, is_claim_of, serving, announced, name1, name2};
 ghost use Rattle.ely_domain.specs.Verdicts.{exchange, server_first};
 ghost use Rattle.ely_domain.specs.declared.prepared.Prepared.{Prepared};
 
@@ -17,6 +17,7 @@ use ely_base::{Bytes, Name, NoMemory, Refused};
 use ely_config::Config;
 use ely_context::{Context, Pin};
 use ely_cred::{Ready, ReadyKey, choose, derive};
+use ely_digest_msg::DigestAlg;
 use ely_hash::Steps;
 use ely_job::{Done, discard};
 use ely_row::{Mech, PipeFault, Place, RowSource, SharedRow};
@@ -40,6 +41,7 @@ fn claimed_name(claim: &Claim) -> &Name
     match claim {
         Claim::Plain { name, .. } => name,
         Claim::Scram(first) => &first.name,
+        Claim::Digest { name, .. } => name,
     }
 }
 
@@ -60,6 +62,18 @@ fn is_other(claim: &Claim) -> bool
     match claim {
         Claim::Plain { authzid, name } => differs(authzid, name),
         Claim::Scram(first) => differs(&first.authzid, &first.name),
+        Claim::Digest { .. } => false,
+    }
+}
+
+/// Whether a hash function that a header names is that of the mechanism.
+pub(crate) fn is_alg_of(mech: Mech, alg: DigestAlg) -> bool
+    ensures { result ≡ is_alg_of mech alg }
+{
+    match (mech, alg) {
+        (Mech::Digest, DigestAlg::Md5) => true,
+        (Mech::DigestSha256, DigestAlg::Sha256) => true,
+        _ => false,
     }
 }
 
@@ -70,25 +84,29 @@ fn is_claim_of(mech: Mech, claim: &Claim) -> bool
     match (mech, claim) {
         (Mech::Plain, Claim::Plain { .. }) => true,
         (Mech::ScramSha1 | Mech::ScramSha256, Claim::Scram(_)) => true,
+        (_, Claim::Digest { alg, .. }) => is_alg_of(mech, *alg),
         _ => false,
     }
 }
 
-/// The name of the one realm that there is.
-#[tactic(auto, unfolding(crate::specs::Given::main_realm))]
-pub(crate) fn main_realm(alloc: Global) -> Result<Name, NoMemory>
-    ensures { IfOk result (λ realm. realm ≡ main_realm) }
+/// The name of the realm in which names are looked for: the first.
+fn first_realm(config: &Config) -> &Name
+    ensures { result.now ≡ first_realm config.now.realms }
 {
-    Ok(Name::of(Vec::from_slice(alloc, b"main")?))
+    match config.realms().first() {
+        Some(realm) => &realm.name,
+        None => unreachable!(),
+    }
 }
 
 /// The place of a name.
 #[tactic(auto, unfolding(crate::specs::Given::place_of))]
-fn place_of(alloc: Global, name: &Name) -> Result<Place, Refused<PipeFault>>
-    ensures { (given : Given) → Gives result (place_of given name.now) }
+fn place_of(alloc: Global, config: &Config, name: &Name) -> Result<Place, Refused<PipeFault>>
+    ensures { (limit : ℕ) → Gives result
+        (place_of (record { config = config.now; limit = limit }) name.now) }
 {
     Ok(Place {
-        realm: main_realm(alloc)?,
+        realm: first_realm(config).copy(alloc)?,
         name: name.copy(alloc)?,
     })
 }
@@ -101,6 +119,7 @@ fn serving_row(
     mech: Mech,
     place: &Place,
 ) -> Result<Result<SharedRow, Outcome>, NoMemory>
+    requires { AreOf config.now tables.now }
     ensures { IfOk result (λ found. found
         ≡ serving (read_of config.now tables.now) mech place.now) }
 {
@@ -122,6 +141,7 @@ pub(crate) fn found_place(
     mech: Mech,
     claim: &Claim,
 ) -> Result<Result<Found, Outcome>, NoMemory>
+    requires { AreOf config.now tables.now }
     ensures { IfOk result (λ found. Finds (read_of config.now tables.now) mech claim.now found) }
 {
     if !is_claim_of(mech, claim) {
@@ -130,7 +150,7 @@ pub(crate) fn found_place(
     if is_other(claim) {
         return Ok(Err(Outcome::Authzid));
     }
-    let place = match place_of(alloc, claimed_name(claim)) {
+    let place = match place_of(alloc, config, claimed_name(claim)) {
         Ok(place) => place,
         Err(Refused::NoMemory) => return Err(NoMemory),
         Err(Refused::Fault(fault)) => return Ok(Err(Outcome::Pipe(fault))),
@@ -179,6 +199,7 @@ pub(crate) fn name1(
     context: &mut Context,
     claim: Claim,
 ) -> Result<Outcome, NoMemory>
+    requires { AreOf config.now tables.now }
     ensures reply { IfOk result (λ outcome. IsReply
         (name1 (read_of config.now tables.now) (seen_login context.old) claim
         (seen_login context.old).stage)
@@ -215,7 +236,7 @@ fn ready_for<L: Ledger>(
         &place.name,
         pin.row.row(),
         mech,
-        &config.params,
+        config.params(),
         steps,
     )
 }
@@ -227,7 +248,7 @@ fn brought_key(config: &Config, pin: &Pin, mech: Mech, done: Option<Done>) -> Op
     ensures value { IfSome result (λ ready. Some ready
         ≡ ready_of config.now.params pin.now.place.realm pin.now.place.name mech pin.now.row) }
 {
-    done?.into_key(&pin.place, &pin.row, mech, &config.params)
+    done?.into_key(&pin.place, &pin.row, mech, config.params())
 }
 
 /// The key of what was pinned: the one that is brought, or else it is derived here.

@@ -38,6 +38,6 @@ pub(crate) fn nonce_of(
     match (mech, brought) {
         (_, Some(nonce)) => Ok(nonce),
         (Mech::Plain, None) => Ok(Bytes::of(Vec::new(alloc))),
-        _ => derived_nonce(alloc, config.params.seed().bytes(), serial),
+        _ => derived_nonce(alloc, config.params().seed().bytes(), serial),
     }
 }

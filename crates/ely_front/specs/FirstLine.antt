@@ -7,7 +7,7 @@ use Rattle.ely_io.specs.declared.line.Line.TheVariants.{End, Text, TooLong}
 use Rattle.ely_io.specs.Streams.{Input}
 use Rattle.ely_io.specs.Lines.{HasNoLf}
 use Rattle.ely_io.specs.Reading.{Reader, most, IsGiven, Counts}
-use Rattle.ely_config.specs.Configs.{plain_config}
+use Rattle.ely_config.specs.Configs as configs
 use Rattle.ely_domain.specs.Given.{Given}
 use Rattle.ely_front.specs.declared.first_line.ConfigFault.{ConfigFault}
 use Rattle.ely_front.specs.declared.first_line.ConfigFault.TheVariants.{NotBuilt}
@@ -16,9 +16,13 @@ use Rattle.ely_front.specs.declared.first_line.FirstFault.TheVariants.{Config, L
 use Rattle.ely_front.specs.declared.ending.Ending.{Ending}
 use Rattle.ely_front.specs.declared.ending.Ending.TheVariants as endings
 
--- what a configuration gives: there is one, and in every mode the journal takes 131,072 edits
+-- what a configuration gives: in every mode the journal takes 131,072 edits
+abbrev pub given_by : configs.Config → Given
+given_by config = record { config = config; limit = 131072 }
+
+-- what the first line gives: there is one that is a configuration
 abbrev pub conf : List ℕ → Result Given ConfigFault
-conf line = if bytes_eq line (codes "{}") then Ok (record { config = plain_config; limit = 131072 }) else Err NotBuilt
+conf line = if bytes_eq line (codes "{}") then Ok (given_by configs.plain_config) else Err NotBuilt
 
 -- the line that is written where the first line is no configuration
 abbrev pub config_text : ConfigFault → List ℕ

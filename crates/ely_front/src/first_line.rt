@@ -4,7 +4,7 @@ ghost use Rattle.std.specs.Prelude.{◌≡◌, ◌≤◌, ℕ, IfOk, OnOk, IfErr
 ghost use Rattle.std.specs.Str.{bytes_eq};
 ghost use Rattle.ely_io.specs.Causes.{Rose};
 ghost use Rattle.ely_front.specs.Moments.{at};
-ghost use Rattle.ely_front.specs.FirstLine.{conf, first_of, first_text, first_ending, IsBegun};
+ghost use Rattle.ely_front.specs.FirstLine.{given_by, conf, first_of, first_text, first_ending, IsBegun};
 ghost use Rattle.ely_front.specs.Ending.{Closes, EndsAs};
 
 use crate::ending::{CONFIG_LIMIT_TEXT, CONFIG_TEXT, Ending, close, stop};
@@ -18,7 +18,8 @@ use std::marker::Model;
 /// The most bytes of the first line.
 const CONFIG_LIMIT: usize = 1048576;
 
-/// What a first line gives: the configuration, and the most edits that the journal takes.
+/// What a first line gives: the configuration, and the most edits that the journal takes, with room for those with which it
+/// begins.
 #[derive(Drop)]
 pub(crate) struct Setup {
     pub(crate) config: Config,
@@ -26,14 +27,15 @@ pub(crate) struct Setup {
 }
 
 impl Model for Setup {
-    ghost use Rattle.std.specs.Prelude.{◌≤◌};
-    ghost use Rattle.ely_domain.specs.Given.{Given};
+    ghost use Rattle.std.specs.Prelude.{◌≤◌, length};
+    ghost use Rattle.ely_domain.specs.Given.{Given, loadings};
 
     ghost Value = { Given };
 
     ghost view = { λ s. record { config = s.config; limit = s.journal_limit } };
 
-    ghost invariant = { λ s. (1 ≤ s.journal_limit) × (s.journal_limit ≤ 131072) };
+    ghost invariant = { λ s. (1 ≤ s.journal_limit) × (s.journal_limit ≤ 131072)
+        × (length (loadings s.config.realms) ≤ s.journal_limit) };
 }
 
 /// Why a line is no configuration.
@@ -59,6 +61,19 @@ pub(crate) struct Begun {
     pub(crate) reader: LineReader,
 }
 
+impl Setup {
+    /// What a configuration gives in every mode. A journal of this limit has room for the edits with which it begins.
+    pub(crate) fn of(config: Config) -> Setup
+        ensures { result ≡ given_by config }
+    {
+        let _realms = config.realms();
+        Setup {
+            config,
+            journal_limit: JOURNAL_LIMIT,
+        }
+    }
+}
+
 /// Reads the configuration, or says why the line is none.
 fn read_config(alloc: Global, line: &[u8]) -> Result<Result<Setup, ConfigFault>, NoMemory>
     ensures { IfOk result (λ read. read ≡ conf line.now) }
@@ -66,10 +81,7 @@ fn read_config(alloc: Global, line: &[u8]) -> Result<Result<Setup, ConfigFault>,
     if line != b"{}".as_slice() {
         return Ok(Err(ConfigFault::NotBuilt));
     }
-    Ok(Ok(Setup {
-        config: Config::plain(alloc)?,
-        journal_limit: JOURNAL_LIMIT,
-    }))
+    Ok(Ok(Setup::of(Config::plain(alloc)?)))
 }
 
 /// What a line is as the first one. An input without a line has the empty one.

@@ -1,4 +1,4 @@
--- HMAC, Hi and the keys of SCRAM as formulas on lists of bytes, over any hash function.
+-- HMAC, Hi, the keys of SCRAM and H(A1) of Digest as formulas on lists of bytes, over any hash function.
 use Rattle.std.specs.Prelude.{ℕ, zero, suc, ◌-◌, nat_le, List, [], ◌∷◌, ◌++◌, length, replicate, map, bit_xor, codes, if◌then◌else◌}
 use Rattle.ely_hash.specs.Hashes.{Hash}
 
@@ -70,3 +70,9 @@ stored_key_of hash salted = hash.digest (client_key_of hash salted)
 -- ServerKey is HMAC (SaltedPassword, "Server Key")
 abbrev pub server_key_of : Hash → List ℕ → List ℕ
 server_key_of hash salted = hmac_of hash salted (codes "Server Key")
+
+-- ---- what Digest keeps in place of a password (RFC 7616 section 3.4.2)
+
+-- H (A1), where A1 is the name, the realm and the password with a colon between them
+abbrev pub ha1_of : Hash → List ℕ → List ℕ → List ℕ → List ℕ
+ha1_of hash name realm password = hash.digest (name ++ codes ":" ++ realm ++ codes ":" ++ password)

@@ -1,7 +1,7 @@
-//! Values derived with HMAC: the MAC of a whole text, Hi, and the keys that a SCRAM server keeps (RFC 5802). Where a
-//! counter is handed in, each HMAC computation is one step.
+//! Values derived of passwords: the MAC of a whole text, Hi, and the keys that a SCRAM server keeps (RFC 5802); and the
+//! digest that a Digest server keeps (RFC 7616). Where a counter is handed in, each HMAC computation is one step.
 ghost use Rattle.std.specs.Prelude.{◌≡◌, ◌+◌, ◌≤◌, length};
-ghost use Rattle.ely_hash.specs.Formulas.{hmac_of, hi_of, stored_key_of, server_key_of};
+ghost use Rattle.ely_hash.specs.Formulas.{hmac_of, hi_of, stored_key_of, server_key_of, ha1_of};
 
 use crate::alg::{HashAlg, digest};
 use crate::lists::xor;
@@ -74,4 +74,19 @@ pub fn keys_of<H: HashAlg, L: Ledger>(salted: &Tag, steps: &mut Steps<L>) -> Scr
         stored: digest::<H>(client.bytes()),
         server,
     }
+}
+
+/// `H(A1)`: the digest of the name, the realm and the password with a colon between them, which a Digest server may keep in
+/// place of the password (RFC 7616 section 3.4.2).
+pub fn ha1<H: HashAlg>(name: &[u8], realm: &[u8], password: &[u8]) -> Tag
+    ensures value { result ≡ ha1_of H.hash name.now realm.now password.now }
+    ensures len { length result ≡ H.hash.len }
+{
+    let mut hash = H::start();
+    hash.add(name);
+    hash.add(b":");
+    hash.add(realm);
+    hash.add(b":");
+    hash.add(password);
+    hash.end()
 }

@@ -1,2 +1,3 @@
 pub mod ScramKeys
+pub mod DigestVerdicts
 pub mod ScramCosts

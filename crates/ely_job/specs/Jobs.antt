@@ -16,11 +16,12 @@ use Rattle.ely_scram.specs.declared.judgement.Judged.TheVariants as judged
 use Rattle.ely_scram.specs.Judgement.{judgement_of}
 use Rattle.ely_scram.specs.JudgementCosts.{judge_cost}
 use Rattle.ely_job.specs.declared.job.Work.{Work}
-use Rattle.ely_job.specs.declared.job.Work.TheVariants.{Held, Derive, Scram, Guess}
+use Rattle.ely_job.specs.declared.job.Work.TheVariants.{Held, Derive, Scram, Digest, Guess}
 use Rattle.ely_job.specs.declared.verdict.Verdict.{Verdict}
 use Rattle.ely_job.specs.declared.verdict.Verdict.TheVariants.{Proved, Binding, Nonce, Proof, Password}
 use Rattle.ely_job.specs.declared.verdict.Finished.{Finished}
 use Rattle.ely_job.specs.declared.verdict.Finished.TheVariants as finished
+use Rattle.ely_job.specs.Digests.{is_digest, digest_hash, digest_verdict}
 
 -- the keys of a key for SCRAM
 abbrev pub scram_keys : ReadyKey → Option ScramKeys
@@ -40,11 +41,12 @@ is_scram ScramSha256 = true
 is_scram _ = false
 
 -- the job can be run: to derive a key, a credential of the row serves the mechanism; a message of SCRAM is judged by a key
--- for SCRAM, and a password by a key for PLAIN
+-- for SCRAM, a header of Digest by one for Digest, and a password by one for PLAIN
 abbrev pub IsRunnable : Work → Type 0
 IsRunnable (Held ready) = Unit {0}
 IsRunnable (Derive place row mech params) = IsSome (chosen mech row)
 IsRunnable (Scram ready first nonce server_first last) = IsTrue (is_scram ready.mech)
+IsRunnable (Digest ready reply method target digest_realm) = IsTrue (is_digest ready.mech)
 IsRunnable (Guess ready password) = ready.mech ≡ Plain
 
 -- the job holds its result already
@@ -56,6 +58,11 @@ is_held _ = false
 abbrev pub takes_memory : Work → Bool
 takes_memory (Derive place row mech params) = true
 takes_memory _ = false
+
+-- the verdict says that the evidence proves the identity
+abbrev pub is_proved : Verdict → Bool
+is_proved (Proved verifier) = true
+is_proved _ = false
 
 -- the verdict on a password
 abbrev pub password_verdict : Bool → Verdict
@@ -69,14 +76,17 @@ scram_verdict judged.BadBinding = Binding
 scram_verdict judged.BadNonce = Nonce
 scram_verdict judged.BadProof = Proof
 
--- what comes of a job: a key that is held is the result; a key is derived of the row; and a message of SCRAM or a password
--- is judged by the key
+-- what comes of a job: a key that is held is the result; a key is derived of the row; and a message of SCRAM, a header of
+-- Digest or a password is judged by the key
 abbrev pub finished_of : Work → Option Finished
 finished_of (Held ready) = Some (finished.Ready ready)
 finished_of (Derive place row mech params) = option_map finished.Ready (ready_of params place.realm place.name mech row)
 finished_of (Scram ready first nonce server_first last) =
     option_map (λ by. finished.Verdict (scram_verdict (judgement_of by.0 by.1 first nonce server_first last)))
     (judged_by ready.mech ready.key)
+finished_of (Digest ready reply method target digest_realm) =
+    option_map (λ hash. finished.Verdict (digest_verdict hash ready.key reply method target digest_realm))
+    (digest_hash ready.mech)
 finished_of (Guess ready password) = Some (finished.Verdict (password_verdict (proves ready.name ready.cred password)))
 
 -- how many HMAC computations a judgement takes, where there is something to judge by
@@ -90,4 +100,5 @@ job_cost (Held ready) = 0
 job_cost (Derive place row mech params) = ready_cost params mech row
 job_cost (Scram ready first nonce server_first last) =
     scram_cost (judged_by ready.mech ready.key) first nonce server_first last
+job_cost (Digest ready reply method target digest_realm) = 0
 job_cost (Guess ready password) = guess_cost ready.cred

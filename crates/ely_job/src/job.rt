@@ -2,10 +2,12 @@
 
 ghost use Rattle.std.specs.Prelude.{◌≡◌, ◌↔◌, IsTrue, IsFalse, IsSome, IfOk, MatchResult};
 ghost use Rattle.ely_cred.specs.Keys.{chosen};
+ghost use Rattle.ely_job.specs.Digests.{is_digest};
 ghost use Rattle.ely_job.specs.Jobs.{IsRunnable, is_scram, is_held};
 
 use ely_base::{Bytes, NoMemory};
 use ely_cred::Ready;
+use ely_digest_msg::DigestReply;
 use ely_hash::same;
 use ely_row::{Mech, Params, Place, SharedRow};
 use ely_scram_msg::{ClientFirst, ClientLast};
@@ -22,6 +24,9 @@ pub(crate) enum Work {
     /// A client's last message is judged by a key. Before it came the client's first message and the server's, with the
     /// server's own part of the nonce in between (RFC 5802 section 3).
     Scram(Ready, ClientFirst, Bytes, Bytes, ClientLast),
+    /// A header of Digest is judged by a key, for a request with this method and this target, and with the realm that is due
+    /// where a clear password is the key (RFC 7616 section 3.4).
+    Digest(Ready, DigestReply, Bytes, Bytes, Bytes),
     /// A password in the clear is judged by a key (RFC 4616).
     Guess(Ready, Bytes),
 }
@@ -82,6 +87,23 @@ impl Job {
         }
     }
 
+    /// The verdict on a header by a key for Digest, for a request with this method and this target: `digest_realm` is the
+    /// realm that the header has to name where a clear password is the key (RFC 7616 section 3.4).
+    pub fn digest(
+        ready: Ready,
+        reply: DigestReply,
+        method: Bytes,
+        target: Bytes,
+        digest_realm: Bytes,
+    ) -> Job
+        requires { IsTrue (is_digest ready.mech) }
+        ensures { result ≡ Work.Digest ready reply method target digest_realm }
+    {
+        Job {
+            work: Work::Digest(ready, reply, method, target, digest_realm),
+        }
+    }
+
     /// The verdict on a password by a key for PLAIN.
     pub fn guess(ready: Ready, password: Bytes) -> Job
         requires { ready.mech ≡ Mech.Plain }
@@ -115,17 +137,9 @@ impl Job {
     pub fn copy(&self, alloc: Global) -> Result<Job, NoMemory>
         ensures { IfOk result (λ copy. copy ≡ self.now) }
     {
-        let work = match &self.work {
-            Work::Held(ready) => Work::Held(ready.copy(alloc)?),
-            Work::Derive(place, row, mech, params) => {
-                copy_derive(alloc, place, row, *mech, params)?
-            }
-            Work::Scram(ready, first, nonce, server_first, last) => {
-                copy_scram(alloc, ready, first, nonce, server_first, last)?
-            }
-            Work::Guess(ready, password) => copy_guess(alloc, ready, password)?,
-        };
-        Ok(Job { work })
+        Ok(Job {
+            work: copy_work(alloc, &self.work)?,
+        })
     }
 
     /// Whether both are equal.
@@ -133,6 +147,23 @@ impl Job {
         ensures { IsTrue result ↔ (self.now ≡ other.now) }
     {
         same_work(&self.work, &other.work)
+    }
+}
+
+/// Equal work. In each case the dearest part is copied last, since the prover looks into each drop of what is there already.
+fn copy_work(alloc: Global, work: &Work) -> Result<Work, NoMemory>
+    ensures { IfOk result (λ copy. copy ≡ work.now) }
+{
+    match work {
+        Work::Held(ready) => Ok(Work::Held(ready.copy(alloc)?)),
+        Work::Derive(place, row, mech, params) => copy_derive(alloc, place, row, *mech, params),
+        Work::Scram(ready, first, nonce, server_first, last) => {
+            copy_scram(alloc, ready, first, nonce, server_first, last)
+        }
+        Work::Digest(ready, reply, method, target, digest_realm) => {
+            copy_digest(alloc, ready, reply, method, target, digest_realm)
+        }
+        Work::Guess(ready, password) => copy_guess(alloc, ready, password),
     }
 }
 
@@ -146,8 +177,9 @@ fn copy_derive(
 ) -> Result<Work, NoMemory>
     ensures { IfOk result (λ work. work ≡ Work.Derive place.now row.now mech params.now) }
 {
-    let (place, row) = (place.copy(alloc)?, row.share()?);
-    Ok(Work::Derive(place, row, mech, params.copy(alloc)?))
+    let params = params.copy(alloc)?;
+    let place = place.copy(alloc)?;
+    Ok(Work::Derive(place, row.share()?, mech, params))
 }
 
 /// Equal work of a judgement.
@@ -162,16 +194,34 @@ fn copy_scram(
     ensures { IfOk result (λ work. work
         ≡ Work.Scram ready.now first.now nonce.now server_first.now last.now) }
 {
-    let (ready, first) = (ready.copy(alloc)?, first.copy(alloc)?);
     let (nonce, server_first) = (nonce.copy(alloc)?, server_first.copy(alloc)?);
-    Ok(Work::Scram(ready, first, nonce, server_first, last.copy(alloc)?))
+    let (first, last) = (first.copy(alloc)?, last.copy(alloc)?);
+    Ok(Work::Scram(ready.copy(alloc)?, first, nonce, server_first, last))
+}
+
+/// Equal work of a header's judgement.
+fn copy_digest(
+    alloc: Global,
+    ready: &Ready,
+    reply: &DigestReply,
+    method: &Bytes,
+    target: &Bytes,
+    digest_realm: &Bytes,
+) -> Result<Work, NoMemory>
+    ensures { IfOk result (λ work. work
+        ≡ Work.Digest ready.now reply.now method.now target.now digest_realm.now) }
+{
+    let (method, target) = (method.copy(alloc)?, target.copy(alloc)?);
+    let (digest_realm, reply) = (digest_realm.copy(alloc)?, reply.copy(alloc)?);
+    Ok(Work::Digest(ready.copy(alloc)?, reply, method, target, digest_realm))
 }
 
 /// Equal work of a guess.
 fn copy_guess(alloc: Global, ready: &Ready, password: &Bytes) -> Result<Work, NoMemory>
     ensures { IfOk result (λ work. work ≡ Work.Guess ready.now password.now) }
 {
-    Ok(Work::Guess(ready.copy(alloc)?, password.copy(alloc)?))
+    let password = password.copy(alloc)?;
+    Ok(Work::Guess(ready.copy(alloc)?, password))
 }
 
 /// Whether both are equal.
@@ -197,6 +247,16 @@ fn same_work(work: &Work, other: &Work) -> bool
                 && same(server_first.bytes(), other_server_first.bytes())
                 && last.same(other_last)
                 && first.same(other_first)
+                && ready.same(other_ready)
+        }
+        (
+            Work::Digest(ready, reply, method, target, digest_realm),
+            Work::Digest(other_ready, other_reply, other_method, other_target, other_realm),
+        ) => {
+            same(method.bytes(), other_method.bytes())
+                && same(target.bytes(), other_target.bytes())
+                && same(digest_realm.bytes(), other_realm.bytes())
+                && reply.same(other_reply)
                 && ready.same(other_ready)
         }
         (Work::Guess(ready, password), Work::Guess(other_ready, other_password)) => {

@@ -4,6 +4,7 @@ ghost use Rattle.std.specs.Prelude.{◌≡◌, ◌+◌, Some, IsFalse, IsOk, IfO
 ghost use Rattle.ely_cred.specs.Guesses.{proves, guess_cost};
 ghost use Rattle.ely_job.specs.Jobs.{is_held, takes_memory, password_verdict, finished_of, job_cost};
 
+use crate::digest::digest_judgement;
 use crate::done::Done;
 use crate::job::{Job, Work};
 use crate::scram::scram_verdict;
@@ -47,6 +48,11 @@ fn finished<L: Ledger>(alloc: Global, job: &Job, steps: &mut Steps<L>) -> Result
         Work::Scram(ready, first, nonce, server_first, last) => {
             let (nonce, server_first) = (nonce.bytes(), server_first.bytes());
             let verdict = scram_verdict::<L>(ready, first, nonce, server_first, last, steps);
+            Ok(Finished::Verdict(verdict))
+        }
+        Work::Digest(ready, reply, method, target, digest_realm) => {
+            let (method, target) = (method.bytes(), target.bytes());
+            let verdict = digest_judgement(ready, reply, method, target, digest_realm.bytes());
             Ok(Finished::Verdict(verdict))
         }
         Work::Guess(ready, password) => {

@@ -6,6 +6,7 @@ ghost use Rattle.std.specs.Option.{option_map, option_copied};
 ghost use Rattle.ely_cred.specs.Guesses.{proves};
 ghost use Rattle.ely_cred.specs.Keys.{ready_of};
 ghost use Rattle.ely_scram.specs.Judgement.{judgement_of};
+ghost use Rattle.ely_job.specs.Digests.{digest_hash, digest_verdict};
 ghost use Rattle.ely_job.specs.Dones.{verdict_in};
 ghost use Rattle.ely_job.specs.Jobs.{finished_of, judged_by, password_verdict, scram_verdict};
 ghost use Rattle.ely_job.specs.declared.job.Work.TheVariants as works;
@@ -15,6 +16,7 @@ use crate::job::{Job, Work};
 use crate::verdict::{Finished, Verdict};
 use ely_base::Bytes;
 use ely_cred::Ready;
+use ely_digest_msg::DigestReply;
 use ely_hash::same;
 use ely_row::{Mech, Params, Place, SharedRow};
 use ely_scram_msg::{ClientFirst, ClientLast};
@@ -69,6 +71,30 @@ fn is_judgement(
                 && same(own_text.bytes(), server_first.bytes())
                 && own_last.same(last)
                 && own_first.same(first)
+                && own_ready.same(ready)
+        }
+        _ => false,
+    }
+}
+
+/// Whether the job is the judgement of this header.
+fn is_header(
+    job: &Job,
+    ready: &Ready,
+    reply: &DigestReply,
+    method: &Bytes,
+    target: &Bytes,
+    digest_realm: &Bytes,
+) -> bool
+    ensures { IsTrue result ↔ (job.now
+        ≡ works.Digest ready.now reply.now method.now target.now digest_realm.now) }
+{
+    match job.work() {
+        Work::Digest(own_ready, own_reply, own_method, own_target, own_realm) => {
+            same(own_method.bytes(), method.bytes())
+                && same(own_target.bytes(), target.bytes())
+                && same(own_realm.bytes(), digest_realm.bytes())
+                && own_reply.same(reply)
                 && own_ready.same(ready)
         }
         _ => false,
@@ -159,6 +185,31 @@ impl Done {
     {
         let is_of_it = self.unheld().is_some_and(|job| {
             is_judgement(job, ready, first, nonce, server_first, last)
+        });
+        if !is_of_it {
+            discard(self);
+            return None;
+        }
+        verdict_in(self)
+    }
+
+    /// The verdict that came of the judgement of this header; none where this is of another job.
+    pub fn into_digest(
+        self,
+        ready: &Ready,
+        reply: &DigestReply,
+        method: &Bytes,
+        target: &Bytes,
+        digest_realm: &Bytes,
+    ) -> Option<Verdict>
+        ensures exact { IsSome result ↔ (self.job
+            ≡ works.Digest ready.now reply.now method.now target.now digest_realm.now) }
+        ensures value { IfSome result (λ verdict. Some verdict ≡ option_map
+            (λ hash. digest_verdict hash ready.now.key reply.now method.now target.now digest_realm.now)
+            (digest_hash ready.now.mech)) }
+    {
+        let is_of_it = self.unheld().is_some_and(|job| {
+            is_header(job, ready, reply, method, target, digest_realm)
         });
         if !is_of_it {
             discard(self);

@@ -1,11 +1,13 @@
-//! Each kind of job once, and the login of RFC 5802 section 5.
+//! Each kind of job once, and the logins of RFC 5802 section 5 and of RFC 7616 section 3.9.1. What owns much is discarded
+//! and not dropped where it stands, since that takes the prover far longer.
 
 ghost use Rattle.std.specs.Prelude.{◌≡◌, ◌<◌};
 
-use crate::{Done, Finished, Job, Verdict};
+use crate::{Done, Finished, Job, Verdict, digest_verdict, discard};
 use ely_base::{Bytes, Name, NoMemory};
 use ely_cred::{Ready, ReadyKey, choose};
-use ely_hash::Steps;
+use ely_digest_msg::{DigestAlg, DigestReply};
+use ely_hash::{Md5Alg, Steps};
 use ely_row::{Mech, Params, Place, Row, SharedRow, StoredCred, is_salt};
 use ely_scram_msg::{ClientFirst, ClientLast, read_client_first, read_client_last, write_verifier};
 use std::alloc::Global;
@@ -13,12 +15,12 @@ use std::marker::Brand;
 use std::sync::ledger::{Blank, Ledger};
 use std::test::Fail;
 
-/// The server's part of the nonce of RFC 5802 section 5.
-const NONCE: &[u8] = b"3rfcNHYJY1ZVvWVs7j";
-
 /// The client's last message of RFC 5802 section 5.
 const LAST: &[u8] =
     b"c=biws,r=fyko+d2lbbFgONRv9qkxdawL3rfcNHYJY1ZVvWVs7j,p=v0X8v3Bz2T0CJGbJQyF0X+HI4Ts=";
+
+/// The response of RFC 7616 section 3.9.1 for MD5.
+const RESPONSE: &[u8] = b"8ca523f5e9506fed4657c9700eebdbec";
 
 fn counted<L: Ledger>(blank: Blank, alloc: Global, job: Job) -> Result<Done, NoMemory>
     requires name { blank.name ≡ L.name }
@@ -77,25 +79,29 @@ fn derivation_of(
     mech: Mech,
     params: Params,
 ) -> Result<Job, NoMemory> {
-    match choose(row.row(), mech) {
-        None => Err(NoMemory),
-        Some(_) => Ok(Job::derive(place, row, mech, params)),
+    if choose(row.row(), mech).is_none() {
+        discard((place, row, params));
+        return Err(NoMemory);
     }
+    Ok(Job::derive(place, row, mech, params))
 }
 
 fn derivation(alloc: Global, password: &[u8], mech: Mech) -> Result<Job, NoMemory> {
-    derivation_of(place(alloc)?, row(alloc, password)?, mech, params(alloc)?)
+    let params = params(alloc)?;
+    let place = place(alloc)?;
+    derivation_of(place, row(alloc, password)?, mech, params)
 }
 
 /// The result of a job.
 fn result_of(alloc: Global, job: Job) -> Result<Finished, NoMemory> {
-    let (_, finished) = ran(alloc, job)?.parts();
+    let (job, finished) = ran(alloc, job)?.parts();
+    discard(job);
     Ok(finished)
 }
 
-/// The key of the password `pencil`.
-fn key(alloc: Global, mech: Mech) -> Result<Ready, NoMemory> {
-    let job = derivation(alloc, b"pencil", mech)?;
+/// The key of a password.
+fn key(alloc: Global, password: &[u8], mech: Mech) -> Result<Ready, NoMemory> {
+    let job = derivation(alloc, password, mech)?;
     match result_of(alloc, job)? {
         Finished::Ready(ready) => Ok(ready),
         Finished::Verdict(_) => Err(NoMemory),
@@ -103,15 +109,17 @@ fn key(alloc: Global, mech: Mech) -> Result<Ready, NoMemory> {
 }
 
 fn guess_of(ready: Ready, password: Bytes) -> Result<Job, NoMemory> {
-    match ready.mech() {
-        Mech::Plain => Ok(Job::guess(ready, password)),
-        _ => Err(NoMemory),
+    if ready.mech() != Mech::Plain {
+        discard((ready, password));
+        return Err(NoMemory);
     }
+    Ok(Job::guess(ready, password))
 }
 
 /// The job of judging a password by the key of `pencil`.
 fn guess(alloc: Global, password: &[u8]) -> Result<Job, NoMemory> {
-    guess_of(key(alloc, Mech::Plain)?, Bytes::copy_of(alloc, password)?)
+    let password = Bytes::copy_of(alloc, password)?;
+    guess_of(key(alloc, b"pencil", Mech::Plain)?, password)
 }
 
 /// The client's first message of RFC 5802 section 5.
@@ -144,22 +152,73 @@ fn scram_of(
     server_first: Bytes,
     last: ClientLast,
 ) -> Result<Job, NoMemory> {
-    match ready.mech() {
-        Mech::ScramSha1 => Ok(Job::scram(ready, first, nonce, server_first, last)),
-        _ => Err(NoMemory),
+    if ready.mech() != Mech::ScramSha1 {
+        discard((ready, first, nonce, server_first, last));
+        return Err(NoMemory);
     }
+    Ok(Job::scram(ready, first, nonce, server_first, last))
 }
 
-/// The job of judging a last message by a key and a nonce.
-fn judging(alloc: Global, ready: Ready, nonce: Bytes, last: ClientLast) -> Result<Job, NoMemory> {
-    scram_of(ready, first(alloc)?, nonce, server_first(alloc)?, last)
-}
-
-/// The same by the key of `pencil`.
-fn scram(alloc: Global, nonce: &[u8], text: &[u8]) -> Result<Job, NoMemory> {
-    let nonce = Bytes::copy_of(alloc, nonce)?;
+/// The job of judging a last message by the key of `pencil`.
+fn scram(alloc: Global, text: &[u8]) -> Result<Job, NoMemory> {
+    let nonce = Bytes::copy_of(alloc, b"3rfcNHYJY1ZVvWVs7j")?;
+    let server_first = server_first(alloc)?;
+    let first = first(alloc)?;
     let last = last(alloc, text)?;
-    judging(alloc, key(alloc, Mech::ScramSha1)?, nonce, last)
+    let ready = key(alloc, b"pencil", Mech::ScramSha1)?;
+    scram_of(ready, first, nonce, server_first, last)
+}
+
+/// The header of RFC 7616 section 3.9.1 for MD5, with another response.
+fn header(alloc: Global, response: &[u8]) -> Result<DigestReply, NoMemory> {
+    Ok(DigestReply {
+        alg: DigestAlg::Md5,
+        name: name(alloc, b"Mufasa")?,
+        realm: Bytes::copy_of(alloc, b"http-auth@example.org")?,
+        nonce: Bytes::copy_of(alloc, b"7ypf/xlj9XXwfDPEoM4URrv/xwf94BcCAzFZH4GiTo0v")?,
+        uri: Bytes::copy_of(alloc, b"/dir/index.html")?,
+        response: Bytes::copy_of(alloc, response)?,
+        nc: 1,
+        cnonce: Bytes::copy_of(alloc, b"f2/wE4q74E6zIJEtWaHKaf5wv/H5QzzpXusqGemxURZJ")?,
+    })
+}
+
+fn digest_of(
+    ready: Ready,
+    reply: DigestReply,
+    method: Bytes,
+    target: Bytes,
+    digest_realm: Bytes,
+) -> Result<Job, NoMemory> {
+    if ready.mech() != Mech::Digest {
+        discard((ready, reply, method, target, digest_realm));
+        return Err(NoMemory);
+    }
+    Ok(Job::digest(ready, reply, method, target, digest_realm))
+}
+
+/// The job of judging that header by the key of its password.
+fn digest(alloc: Global) -> Result<Job, NoMemory> {
+    let method = Bytes::copy_of(alloc, b"GET")?;
+    let target = Bytes::copy_of(alloc, b"/dir/index.html")?;
+    let realm = Bytes::copy_of(alloc, b"http-auth@example.org")?;
+    let reply = header(alloc, RESPONSE)?;
+    let ready = key(alloc, b"Circle of Life", Mech::Digest)?;
+    digest_of(ready, reply, method, target, realm)
+}
+
+/// The verdict on that header with another response, by its password.
+fn digest_told(
+    alloc: Global,
+    response: &[u8],
+    target: &[u8],
+    realm: &[u8],
+) -> Result<Verdict, NoMemory> {
+    let reply = header(alloc, response)?;
+    let key = ReadyKey::Password(Bytes::copy_of(alloc, b"Circle of Life")?);
+    let verdict = digest_verdict::<Md5Alg>(&key, &reply, b"GET", target, realm);
+    discard((key, reply));
+    Ok(verdict)
 }
 
 /// The result in words: the server's last message, or which it is.
@@ -172,6 +231,9 @@ fn told(alloc: Global, finished: &Finished) -> Result<Bytes, NoMemory> {
         Finished::Verdict(Verdict::Nonce) => Bytes::copy_of(alloc, b"nonce"),
         Finished::Verdict(Verdict::Proof) => Bytes::copy_of(alloc, b"proof"),
         Finished::Verdict(Verdict::Password) => Bytes::copy_of(alloc, b"password"),
+        Finished::Verdict(Verdict::Realm) => Bytes::copy_of(alloc, b"realm"),
+        Finished::Verdict(Verdict::Uri) => Bytes::copy_of(alloc, b"uri"),
+        Finished::Verdict(Verdict::Response) => Bytes::copy_of(alloc, b"response"),
     }
 }
 
@@ -186,23 +248,20 @@ fn is_pencil(finished: &Finished) -> bool {
     }
 }
 
-/// What is told of a password, and of a last message.
-fn told_of_guess(alloc: Global, password: &[u8]) -> Result<Bytes, NoMemory> {
-    told(alloc, &result_of(alloc, guess(alloc, password)?)?)
-}
-
-fn told_of_scram(alloc: Global, text: &[u8]) -> Result<Bytes, NoMemory> {
-    told(alloc, &result_of(alloc, scram(alloc, NONCE, text)?)?)
-}
-
-/// The job that holds the key of `pencil`.
-fn held(alloc: Global) -> Result<Job, NoMemory> {
-    Ok(Job::held(key(alloc, Mech::Plain)?))
+/// What is told of a job's result.
+fn told_of(alloc: Global, job: Job) -> Result<Bytes, NoMemory> {
+    let finished = result_of(alloc, job)?;
+    let text = told(alloc, &finished);
+    discard(finished);
+    text
 }
 
 /// Whether the key of `pencil` is the result.
-fn gives_pencil(alloc: Global, job: Result<Job, NoMemory>) -> Result<bool, NoMemory> {
-    Ok(is_pencil(&result_of(alloc, job?)?))
+fn gives_pencil(alloc: Global, job: Job) -> Result<bool, NoMemory> {
+    let finished = result_of(alloc, job)?;
+    let is = is_pencil(&finished);
+    discard(finished);
+    Ok(is)
 }
 
 fn crosses<T: Send + Sync>() {}
@@ -216,16 +275,19 @@ fn jobs_and_results_may_cross_threads() {
 
 #[test]
 fn a_key_is_derived_or_held(rt: HostRuntime) -> Result<(), Fail> {
-    let job = derivation(rt.alloc(), b"pencil", Mech::Plain);
-    assert!(rt; gives_pencil(rt.alloc(), job)?);
-    assert!(rt; gives_pencil(rt.alloc(), held(rt.alloc()))?);
+    let alloc = rt.alloc();
+    assert!(rt; gives_pencil(alloc, derivation(alloc, b"pencil", Mech::Plain)?)?);
+    assert!(rt; gives_pencil(alloc, Job::held(key(alloc, b"pencil", Mech::Plain)?))?);
     Ok(())
 }
 
 #[test]
 fn a_password_is_judged(rt: HostRuntime) -> Result<(), Fail> {
-    assert!(rt; told_of_guess(rt.alloc(), b"pencil")?.bytes() == b"proved".as_slice());
-    assert!(rt; told_of_guess(rt.alloc(), b"Pencil")?.bytes() == b"password".as_slice());
+    let rows: [(&[u8], &[u8]); 2] = [(b"pencil", b"proved"), (b"Pencil", b"password")];
+    for (password, text) in rows {
+        let job = guess(rt.alloc(), password)?;
+        assert!(rt; told_of(rt.alloc(), job)?.bytes() == text);
+    }
     Ok(())
 }
 
@@ -240,7 +302,41 @@ fn a_message_of_scram_is_judged(rt: HostRuntime) -> Result<(), Fail> {
         ),
     ];
     for (last, text) in rows {
-        assert!(rt; told_of_scram(rt.alloc(), last)?.bytes() == text);
+        let job = scram(rt.alloc(), last)?;
+        assert!(rt; told_of(rt.alloc(), job)?.bytes() == text);
     }
+    Ok(())
+}
+
+// RFC 7616 section 3.9.1: another realm, another target by a byte, a response without its last digit and one of upper-case
+// digits are refused.
+#[test]
+fn a_header_of_digest_is_judged(rt: HostRuntime) -> Result<(), Fail> {
+    let (target, realm) = (
+        b"/dir/index.html".as_slice(),
+        b"http-auth@example.org".as_slice(),
+    );
+    let rows: [(&[u8], &[u8], &[u8], Verdict); 5] = [
+        (RESPONSE, target, realm, Verdict::Proved(None)),
+        (RESPONSE, target, b"http-auth@example.com", Verdict::Realm),
+        (RESPONSE, b"/dir/index.htmk", realm, Verdict::Uri),
+        (
+            b"8ca523f5e9506fed4657c9700eebdbe",
+            target,
+            realm,
+            Verdict::Response,
+        ),
+        (
+            b"8CA523F5E9506FED4657C9700EEBDBEC",
+            target,
+            realm,
+            Verdict::Response,
+        ),
+    ];
+    for (response, target, realm, wanted) in rows {
+        assert!(rt; digest_told(rt.alloc(), response, target, realm)? == wanted);
+    }
+    let job = digest(rt.alloc())?;
+    assert!(rt; told_of(rt.alloc(), job)?.bytes() == b"proved".as_slice());
     Ok(())
 }

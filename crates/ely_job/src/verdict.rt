@@ -16,6 +16,12 @@ pub enum Verdict {
     Proof,
     /// The password isn't that of the identity (RFC 4616).
     Password,
+    /// The header's realm isn't the one that is due (RFC 7616 section 3.4.2).
+    Realm,
+    /// The header's uri isn't the target of the request (RFC 7616 section 3.4.6).
+    Uri,
+    /// The header's response isn't the one of the formula (RFC 7616 section 3.4.1).
+    Response,
 }
 
 /// The result of a job: a key, or a verdict.

@@ -31,6 +31,7 @@ fn changed_row(alloc: Global, row: &Row, edit: &Edit) -> Result<Option<Row>, NoM
             Ok(Some(row.copy(alloc)?.with_attr(attr, values)?))
         }
         Edit::DropAttr { attr, .. } => Ok(Some(row.copy(alloc)?.without_attr(attr))),
+        Edit::Reload { .. } => Ok(None),
     }
 }
 
@@ -44,7 +45,8 @@ fn made(alloc: Global, edit: &Edit) -> Option<Row>
     }
 }
 
-/// What an edit that may be made makes of the identity that it names, or of a name that has none. What it made is new.
+/// What an edit that may be made makes of the identity that it names, or of a name that has none; a reload, whose texts are
+/// read elsewhere, leaves nothing of one. What it made is new.
 pub fn changed(alloc: Global, row: Option<&Row>, edit: &Edit) -> Result<Option<Row>, NoMemory>
     requires { IfSome (option_copied row) (λ r. fault_there r edit.now ≡ None) }
     ensures { IfOk result (λ after. after ≡ changed edit.now (option_copied row.entry)) }
@@ -66,6 +68,7 @@ fn fault_there(row: &Row, edit: &Edit) -> Option<EditFault>
         Edit::DropCred { slot, .. } => unless(row.has_cred(*slot), EditFault::NoCred),
         Edit::SetAttr { attr, .. } => unless(row.has_attr_room(attr), EditFault::AttrsFull),
         Edit::DropAttr { attr, .. } => unless(row.has_attr(attr), EditFault::NoAttr),
+        Edit::Reload { .. } => None,
     }
 }
 

@@ -1,14 +1,15 @@
 //! The edits of the journal, and why one is refused.
 
 ghost use Rattle.std.specs.Prelude.{◌≡◌, IfOk};
+ghost use Rattle.std.specs.Option.{option_copied};
 ghost use Rattle.ely_row.specs.Edits.{realm_of, name_of, is_of};
 
 use crate::cred::StoredCred;
 use crate::values::Values;
-use ely_base::{Name, NoMemory};
+use ely_base::{Bytes, Name, NoMemory};
 use std::alloc::Global;
 
-/// A change of one identity.
+/// A change of one identity, or of all that a realm has.
 #[derive(Debug, Drop)]
 pub enum Edit {
     /// A new identity without credentials and attributes.
@@ -47,10 +48,16 @@ pub enum Edit {
         name: Name,
         attr: Name,
     },
+    /// The identities of two texts, in place of all that the realm has: its users with a credential each, and their groups.
+    Reload {
+        realm: Name,
+        users: Bytes,
+        groups: Bytes,
+    },
 }
 
 impl Edit {
-    /// The realm of the identity.
+    /// The realm of the identity, or the one that is reloaded.
     pub fn realm(&self) -> &Name
         ensures { result.now ≡ realm_of self.now }
     {
@@ -61,28 +68,33 @@ impl Edit {
             Edit::DropCred { realm, .. } => realm,
             Edit::SetAttr { realm, .. } => realm,
             Edit::DropAttr { realm, .. } => realm,
+            Edit::Reload { realm, .. } => realm,
         }
     }
 
-    /// The name of the identity.
-    pub fn name(&self) -> &Name
-        ensures { result.now ≡ name_of self.now }
+    /// The name of the identity; `None` exactly for a reload, which is of no one.
+    pub fn name(&self) -> Option<&Name>
+        ensures { option_copied result ≡ name_of self.now }
     {
         match self {
-            Edit::Add { name, .. } => name,
-            Edit::Remove { name, .. } => name,
-            Edit::SetCred { name, .. } => name,
-            Edit::DropCred { name, .. } => name,
-            Edit::SetAttr { name, .. } => name,
-            Edit::DropAttr { name, .. } => name,
+            Edit::Add { name, .. } => Some(name),
+            Edit::Remove { name, .. } => Some(name),
+            Edit::SetCred { name, .. } => Some(name),
+            Edit::DropCred { name, .. } => Some(name),
+            Edit::SetAttr { name, .. } => Some(name),
+            Edit::DropAttr { name, .. } => Some(name),
+            Edit::Reload { .. } => None,
         }
     }
 
-    /// Whether it is of this realm and this name.
+    /// Whether it is of this realm and this name. A reload is of each name of its realm.
     pub fn is_of(&self, realm: &Name, name: &Name) -> bool
         ensures { result ≡ is_of realm.now name.now self.now }
     {
-        self.realm().is(realm) && self.name().is(name)
+        match self.name() {
+            None => self.realm().is(realm),
+            Some(own) => self.realm().is(realm) && own.is(name),
+        }
     }
 
     /// An equal edit.
@@ -90,31 +102,51 @@ impl Edit {
         ensures { IfOk result (λ copy. copy ≡ self.now) }
     {
         let realm = self.realm().copy(alloc)?;
-        let name = self.name().copy(alloc)?;
         match self {
-            Edit::Add { .. } => Ok(Edit::Add { realm, name }),
-            Edit::Remove { .. } => Ok(Edit::Remove { realm, name }),
-            Edit::SetCred { slot, cred, .. } => Ok(Edit::SetCred {
+            Edit::Add { name, .. } => Ok(Edit::Add {
                 realm,
+                name: name.copy(alloc)?,
+            }),
+            Edit::Remove { name, .. } => Ok(Edit::Remove {
+                realm,
+                name: name.copy(alloc)?,
+            }),
+            Edit::SetCred {
                 name,
+                slot,
+                cred,
+                ..
+            } => Ok(Edit::SetCred {
+                realm,
+                name: name.copy(alloc)?,
                 slot: *slot,
                 cred: cred.copy(alloc)?,
             }),
-            Edit::DropCred { slot, .. } => Ok(Edit::DropCred {
+            Edit::DropCred { name, slot, .. } => Ok(Edit::DropCred {
                 realm,
-                name,
+                name: name.copy(alloc)?,
                 slot: *slot,
             }),
-            Edit::SetAttr { attr, values, .. } => Ok(Edit::SetAttr {
-                realm,
+            Edit::SetAttr {
                 name,
+                attr,
+                values,
+                ..
+            } => Ok(Edit::SetAttr {
+                realm,
+                name: name.copy(alloc)?,
                 attr: attr.copy(alloc)?,
                 values: values.copy(alloc)?,
             }),
-            Edit::DropAttr { attr, .. } => Ok(Edit::DropAttr {
+            Edit::DropAttr { name, attr, .. } => Ok(Edit::DropAttr {
                 realm,
-                name,
+                name: name.copy(alloc)?,
                 attr: attr.copy(alloc)?,
+            }),
+            Edit::Reload { users, groups, .. } => Ok(Edit::Reload {
+                realm,
+                users: users.copy(alloc)?,
+                groups: groups.copy(alloc)?,
             }),
         }
     }

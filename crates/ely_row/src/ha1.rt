@@ -99,8 +99,8 @@ pub(crate) fn read_hashed(alloc: Global, len: usize, text: &[u8]) -> Result<Ha1,
     Ok(Ha1 { realm, hash })
 }
 
-/// Whether the bytes may be the realm of a hash.
-fn is_realm(realm: &[u8]) -> bool
+/// Whether the bytes may be a realm of Digest: 1 to 255 bytes of printable ASCII without the double quote and the backslash.
+pub fn is_realm(realm: &[u8]) -> bool
     ensures { result ≡ is_realm realm.now }
 {
     1 <= realm.len() && realm.len() <= 255 && are_realm_bytes(realm)

@@ -24,7 +24,7 @@ pub use cred::{Credential, StoredCred, is_kind};
 pub use deps::{Deps, touches};
 pub use edit::{Edit, EditFault, PropFault};
 pub use fault::CredFault;
-pub use ha1::Ha1;
+pub use ha1::{Ha1, is_realm};
 pub use laws::untouched_row_stays;
 pub use mech::Mech;
 pub use params::Params;

@@ -36,7 +36,7 @@ fn values(alloc: Global, count: u8) -> Result<Values, NoMemory> {
     }
 }
 
-/// One edit of each kind, of the user `u` in the realm `main`.
+/// One edit of each kind, of the user `u` in the realm `main`, and last a reload of that realm.
 fn edits(alloc: Global) -> Result<Vec<Edit>, NoMemory> {
     let place = || Ok::<_, NoMemory>((name(alloc, b"main")?, name(alloc, b"u")?));
     let mut list = Vec::new(alloc);
@@ -70,6 +70,11 @@ fn edits(alloc: Global) -> Result<Vec<Edit>, NoMemory> {
     })?;
     let (realm, user) = place()?;
     list.push(Edit::Remove { realm, name: user })?;
+    list.push(Edit::Reload {
+        realm: name(alloc, b"main")?,
+        users: Bytes::copy_of(alloc, b"u=00")?,
+        groups: Bytes::copy_of(alloc, b"u=a")?,
+    })?;
     Ok(list)
 }
 
@@ -140,7 +145,7 @@ fn edits_make_rows_and_take_them_away(rt: HostRuntime) -> Result<(), Fail> {
     }
     assert_eq!(rt;
         shown.as_slice(),
-        [(0, 0), (1, 0), (1, 1), (0, 1), (0, 0), (9, 9)].as_slice()
+        [(0, 0), (1, 0), (1, 1), (0, 1), (0, 0), (9, 9), (9, 9)].as_slice()
     );
     Ok(())
 }
@@ -307,6 +312,7 @@ fn edits_are_judged_by_the_row_that_is_there(rt: HostRuntime) -> Result<(), Fail
         Some(EditFault::Absent),
         Some(EditFault::Absent),
         Some(EditFault::Absent),
+        Some(EditFault::Absent),
     ];
     let bare = [
         Some(EditFault::Exists),
@@ -314,6 +320,7 @@ fn edits_are_judged_by_the_row_that_is_there(rt: HostRuntime) -> Result<(), Fail
         None,
         Some(EditFault::NoCred),
         Some(EditFault::NoAttr),
+        None,
         None,
     ];
     let row = Row::new(rt.alloc());
@@ -328,20 +335,25 @@ fn edits_are_judged_by_the_row_that_is_there(rt: HostRuntime) -> Result<(), Fail
 }
 
 #[test]
-fn an_edit_touches_its_own_place_alone(rt: HostRuntime) -> Result<(), Fail> {
-    let rows: [(&[u8], &[u8], bool); 4] = [
-        (b"main", b"u", true),
-        (b"other", b"u", false),
-        (b"main", b"v", false),
-        (b"u", b"main", false),
+fn an_edit_touches_its_own_place_and_a_reload_its_whole_realm(rt: HostRuntime) -> Result<(), Fail> {
+    let rows: [(&[u8], &[u8], bool, bool); 4] = [
+        (b"main", b"u", true, true),
+        (b"other", b"u", false, false),
+        (b"main", b"v", false, true),
+        (b"u", b"main", false, false),
     ];
-    for (realm, user, touched) in rows {
+    for (realm, user, touched, reloaded) in rows {
         let mut places = Vec::new(rt.alloc());
         places.push((name(rt.alloc(), b"x")?, name(rt.alloc(), b"y")?))?;
         places.push((name(rt.alloc(), realm)?, name(rt.alloc(), user)?))?;
         let deps = Deps::of(places).copy(rt.alloc())?;
         for edit in edits(rt.alloc())?.as_slice() {
-            assert!(rt; touches(edit, &deps) == touched);
+            let expected = if edit.name().is_some() {
+                touched
+            } else {
+                reloaded
+            };
+            assert!(rt; touches(edit, &deps) == expected);
         }
     }
     Ok(())

@@ -1,9 +1,11 @@
 -- The words of a line behind its verb: how many there are, and what each stands for. Words are numbered from 1, the actor.
-use Rattle.std.specs.Prelude.{ℕ, ◌+◌, ◌-◌, ◌^◌, if◌then◌else◌, List, [], ◌∷◌, Option, Some, None, Result, Ok, Err}
+use Rattle.std.specs.Prelude.{ℕ, ◌+◌, ◌-◌, ◌^◌, nat_le, if◌then◌else◌, List, [], ◌∷◌, length, codes, Option, Some, None, Result, Ok, Err}
 use Rattle.std.specs.List.{join_with_byte}
 use Rattle.std.specs.Option.{ok_or}
+use Rattle.std.specs.Str.{bytes_eq}
 use Rattle.ely_base.specs.Numbers.{number_of}
 use Rattle.ely_base.specs.Refused.{◌>>=◌, refused_as}
+use Rattle.ely_base.specs.Texts.{base64_of}
 use Rattle.ely_base.specs.Words.{read_word_of, name_word_of}
 use Rattle.ely_row.specs.Attributes.{is_values}
 use Rattle.ely_script.specs.declared.outcome.BadLine.{BadLine}
@@ -71,6 +73,18 @@ number_at max number word = ok_or (number_of max word) (bad.Number number)
 -- the login that the word of this number names: a number below 2^32
 abbrev pub ctx_at : ℕ → List ℕ → Result ℕ BadLine
 ctx_at number word = number_at (2 ^ 32 - 1) number word
+
+-- the word of this number as it stands, of at least one byte
+abbrev pub raw_at : ℕ → List ℕ → Result (List ℕ) BadLine
+raw_at number word = if nat_le 1 (length word) then Ok word else Err (bad.Word number)
+
+-- the bytes whose base64 text the word of this number is
+abbrev pub base64_at : ℕ → List ℕ → Result (List ℕ) BadLine
+base64_at number word = refused_as (λ f. bad.Word number) (base64_of word)
+
+-- the text that the word of this number stands for: in base64, or `-` for the empty one
+abbrev pub text_at : ℕ → List ℕ → Result (List ℕ) BadLine
+text_at number word = if bytes_eq word (codes "-") then Ok [] else base64_at number word
 
 -- the bytes of the coded word of this number
 abbrev pub coded_at : ℕ → List ℕ → Result (List ℕ) BadLine

@@ -10,7 +10,7 @@ use Rattle.ely_script.specs.declared.command.Verb.TheVariants as verbs
 use Rattle.ely_script.specs.declared.limits.TheConstants.{MAX_SLOT}
 use Rattle.ely_script.specs.declared.outcome.BadLine.{BadLine}
 use Rattle.ely_script.specs.declared.outcome.BadLine.TheVariants as bad
-use Rattle.ely_script.specs.Arguments.{first_of, some_of, two_of, three_of, five_of, number_at, coded_at, name_at, names_at, place_at}
+use Rattle.ely_script.specs.Arguments.{first_of, some_of, two_of, three_of, five_of, number_at, text_at, coded_at, name_at, names_at, place_at}
 
 -- add REALM NAME
 abbrev pub add_of : List (List ℕ) → Result Verb BadLine
@@ -68,6 +68,11 @@ drop_attr_of args = do
   what ← name_at 5 words.2
   Ok (verbs.Change (edits.DropAttr place.0 place.1 what))
 
--- reload REALM USERS GROUPS, which isn't built yet
+-- reload REALM USERS GROUPS
 abbrev pub reload_of : List (List ℕ) → Result Verb BadLine
-reload_of args = three_of args >>= λ words. Err bad.NotBuilt
+reload_of args = do
+  words ← three_of args
+  realm ← name_at 3 words.0
+  users ← text_at 4 words.1
+  groups ← text_at 5 words.2
+  Ok (verbs.Change (edits.Reload realm users groups))

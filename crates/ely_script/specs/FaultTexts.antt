@@ -2,6 +2,9 @@
 use Rattle.std.specs.Prelude.{ℕ, List, ◌++◌, codes}
 use Rattle.std.specs.Fmt.{decimal}
 use Rattle.ely_base.specs.Words.{word_text}
+use Rattle.ely_digest_msg.specs.Fields.{field_text}
+use Rattle.ely_digest_msg.specs.declared.fault.DigestFault.{DigestFault}
+use Rattle.ely_digest_msg.specs.declared.fault.DigestFault.TheVariants as headers
 use Rattle.ely_plain.specs.declared.message.PlainFault.{PlainFault}
 use Rattle.ely_plain.specs.declared.message.PlainFault.TheVariants as plain
 use Rattle.ely_row.specs.declared.fault.CredFault.{CredFault}
@@ -52,6 +55,19 @@ kind_text kinds.Trailing = codes "trailing"
 abbrev pub scram_text : MsgFault → List ℕ
 scram_text fault = kind_text fault.kind ++ codes " " ++ decimal fault.place
 
+-- a fault of a header of Digest, with its offset there or its field
+abbrev pub header_text : DigestFault → List ℕ
+header_text headers.Scheme = codes "scheme 0"
+header_text (headers.Token offset) = codes "token " ++ decimal offset
+header_text (headers.Quote offset) = codes "quote " ++ decimal offset
+header_text (headers.Repeat field) = codes "repeat " ++ field_text field
+header_text (headers.Missing field) = codes "missing " ++ field_text field
+header_text headers.Name = codes "name"
+header_text headers.Nc = codes "nc"
+header_text headers.Algorithm = codes "algorithm"
+header_text headers.Qop = codes "qop"
+header_text headers.Userhash = codes "userhash"
+
 -- a fault of a line
 abbrev pub bad_text : BadLine → List ℕ
 bad_text bad.Long = codes "long"
@@ -64,7 +80,7 @@ bad_text (bad.Word word) = codes "word " ++ decimal word
 bad_text (bad.Cred fault) = codes "cred " ++ cred_text fault
 bad_text (bad.Plain fault) = codes "message " ++ plain_text fault
 bad_text (bad.Scram fault) = codes "message " ++ scram_text fault
-bad_text bad.NotBuilt = codes "not-built"
+bad_text (bad.Digest fault) = codes "message " ++ header_text fault
 
 -- a fault of a properties text
 abbrev pub prop_text : PropFault → List ℕ

@@ -1,10 +1,10 @@
 -- The arguments of the steps of a login.
-use Rattle.std.specs.Prelude.{ℕ, ◌||◌, ◌&&◌, Bool, nat_le, if◌then◌else◌, List, length, codes, Option, Some, None, Result, Ok, Err}
+use Rattle.std.specs.Prelude.{ℕ, ◌&&◌, Bool, nat_le, if◌then◌else◌, List, length, codes, Option, Some, None, Result, Ok, Err}
 use Rattle.std.specs.List.{list_all}
 use Rattle.std.specs.Str.{bytes_eq}
 use Rattle.ely_base.specs.Printable.{is_printable_but}
 use Rattle.ely_base.specs.Refused.{◌>>=◌, refused_as}
-use Rattle.ely_base.specs.Texts.{base64_of}
+use Rattle.ely_digest_msg.specs.Replies.{reply_of}
 use Rattle.ely_plain.specs.declared.message.PlainMsg.{PlainMsg}
 use Rattle.ely_plain.specs.Messages.{plain_of}
 use Rattle.ely_row.specs.declared.mech.Mech.{Mech}
@@ -16,16 +16,8 @@ use Rattle.ely_script.specs.declared.command.Verb.TheVariants as verbs
 use Rattle.ely_script.specs.declared.limits.TheConstants.{MAX_NONCE_BYTES, MAX_PERMISSION_BYTES}
 use Rattle.ely_script.specs.declared.outcome.BadLine.{BadLine}
 use Rattle.ely_script.specs.declared.outcome.BadLine.TheVariants as bad
-use Rattle.ely_script.specs.Arguments.{first_of, last_of, one_of, two_of, rest_of, ctx_at, coded_at}
+use Rattle.ely_script.specs.Arguments.{first_of, last_of, one_of, two_of, rest_of, ctx_at, raw_at, base64_at, coded_at}
 use Rattle.ely_script.specs.Words.{mech_text}
-
--- nothing, or that this isn't built yet
-abbrev pub built : Bool → Result (Unit {0}) BadLine
-built later = if later then Err bad.NotBuilt else Ok tt
-
--- the mechanisms that aren't built yet
-abbrev pub is_later_mech : List ℕ → Bool
-is_later_mech word = bytes_eq word (mech_text mechs.Digest) || bytes_eq word (mech_text mechs.DigestSha256)
 
 -- the mechanism that the fourth word names
 abbrev pub mech_at : List ℕ → Result Mech BadLine
@@ -33,7 +25,9 @@ mech_at word =
     if bytes_eq word (mech_text mechs.Plain) then Ok mechs.Plain
     else (if bytes_eq word (mech_text mechs.ScramSha1) then Ok mechs.ScramSha1
     else (if bytes_eq word (mech_text mechs.ScramSha256) then Ok mechs.ScramSha256
-    else Err (bad.Word 4)))
+    else (if bytes_eq word (mech_text mechs.Digest) then Ok mechs.Digest
+    else (if bytes_eq word (mech_text mechs.DigestSha256) then Ok mechs.DigestSha256
+    else Err (bad.Word 4)))))
 
 -- a nonce: 1 to 128 printable bytes, none of them a space, a double quote, a comma or a backslash
 abbrev pub is_nonce : List ℕ → Bool
@@ -52,7 +46,6 @@ open_of args = do
   first ← first_of args
   second ← first_of first.1
   third ← last_of second.1
-  known ← built (is_later_mech second.0)
   ctx ← ctx_at 3 first.0
   mech ← mech_at second.0
   opening ← nonce_at third
@@ -61,7 +54,7 @@ open_of args = do
 -- the message of PLAIN whose base64 text the fourth word is
 abbrev pub message_at : List ℕ → Result PlainMsg BadLine
 message_at word = do
-  bytes ← refused_as (λ f. bad.Word 4) (base64_of word)
+  bytes ← base64_at 4 word
   refused_as bad.Plain (plain_of bytes)
 
 -- plain CTX BASE64
@@ -94,14 +87,24 @@ final_line_of args = do
   message ← refused_as bad.Scram (client_last_of line.1)
   Ok (verbs.Last line.0 message)
 
--- digest CTX METHOD TARGET and the rest of the line, which isn't built yet
-abbrev pub digest_of : List (List ℕ) → Result Verb BadLine
-digest_of args = do
-  ctx ← first_of args
-  method ← first_of ctx.1
-  target ← first_of method.1
-  rest ← first_of target.1
-  Err bad.NotBuilt
+-- CTX METHOD TARGET REST: the login, the method and the target of a request (RFC 7616 section 3.4), and what stands behind them
+abbrev pub request_of : List (List ℕ) → Result (ℕ × List ℕ × List ℕ × List ℕ) BadLine
+request_of args = do
+  first ← first_of args
+  second ← first_of first.1
+  third ← first_of second.1
+  rest ← rest_of third.1
+  ctx ← ctx_at 3 first.0
+  method ← raw_at 4 second.0
+  target ← raw_at 5 third.0
+  Ok (ctx, method, target, rest)
+
+-- digest CTX METHOD TARGET REST, where REST is an Authorization header (RFC 7616 section 3.4)
+abbrev pub digest_line_of : List (List ℕ) → Result Verb BadLine
+digest_line_of args = do
+  line ← request_of args
+  reply ← refused_as bad.Digest (reply_of line.3)
+  Ok (verbs.Digest line.0 line.1 line.2 reply)
 
 -- the login that CTX names, which stands alone
 abbrev pub only_ctx_at : List (List ℕ) → Result ℕ BadLine

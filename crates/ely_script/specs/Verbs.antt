@@ -8,7 +8,7 @@ use Rattle.ely_script.specs.declared.outcome.BadLine.TheVariants as bad
 use Rattle.ely_script.specs.declared.verbs.VerbWord.{VerbWord}
 use Rattle.ely_script.specs.declared.verbs.VerbWord.TheVariants as words
 use Rattle.ely_script.specs.EditLines.{add_of, remove_of, set_cred_of, drop_cred_of, set_attr_of, drop_attr_of, reload_of}
-use Rattle.ely_script.specs.LoginLines.{open_of, plain_line_of, first_line_of, final_line_of, digest_of, only_ctx_of, allows_of}
+use Rattle.ely_script.specs.LoginLines.{open_of, plain_line_of, first_line_of, final_line_of, digest_line_of, only_ctx_of, allows_of}
 
 -- the word of each verb
 abbrev pub verb_words : List (List ℕ × VerbWord)
@@ -54,7 +54,7 @@ args_of words.Open args = open_of args
 args_of words.Plain args = plain_line_of args
 args_of words.First args = first_line_of args
 args_of words.Final args = final_line_of args
-args_of words.Digest args = digest_of args
+args_of words.Digest args = digest_line_of args
 args_of words.Authorize args = only_ctx_of verbs.Authorize args
 args_of words.Succeed args = only_ctx_of verbs.Succeed args
 args_of words.Fail args = only_ctx_of verbs.Fail args

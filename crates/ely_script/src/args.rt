@@ -4,10 +4,12 @@ ghost use Rattle.std.specs.Prelude.{◌≡◌, ◌-◌, ◌^◌, ◌≤◌, IsTr
 ghost use Rattle.std.specs.Option.{option_map};
 ghost use Rattle.ely_base.specs.Refused.{Gives};
 ghost use Rattle.ely_row.specs.Attributes.{is_values};
-ghost use Rattle.ely_script.specs.Arguments.{first_of, last_of, none_of, one_of, two_of, three_of, five_of, some_of, rest_of, number_at, ctx_at, coded_at, name_at, names_at, place_at};
+ghost use Rattle.ely_script.specs.Arguments.{first_of, last_of, none_of, one_of, two_of, three_of, five_of, some_of, rest_of, number_at, ctx_at, raw_at, base64_at, text_at, coded_at, name_at, names_at, place_at};
 
 use crate::outcome::BadLine;
-use ely_base::{Bytes, CtxId, Name, Refused, count_of, cut_at, or_fault, read_number, read_word};
+use ely_base::{
+    Bytes, CtxId, Name, Refused, count_of, cut_at, or_fault, read_base64, read_number, read_word,
+};
 use ely_row::Values;
 use std::alloc::Global;
 use std::marker::Model;
@@ -180,7 +182,7 @@ impl<'a> Args<'a> {
     }
 }
 
-impl Word<'_> {
+impl<'a> Word<'a> {
     /// The number up to `max` that the word of this number is.
     pub(crate) fn number(&self, max: u64, number: u32) -> Result<u64, BadLine>
         ensures value { result ≡ number_at max number self.now }
@@ -195,6 +197,34 @@ impl Word<'_> {
     {
         let id = self.number(u64::from(u32::MAX), number)?;
         Ok(CtxId(id as u32))
+    }
+
+    /// The word of this number as it stands, of at least one byte.
+    pub(crate) fn raw(self, number: u32) -> Result<Word<'a>, BadLine>
+        ensures { result ≡ raw_at number self.entry }
+    {
+        if self.bytes.len() >= 1 {
+            Ok(self)
+        } else {
+            Err(BadLine::Word(number))
+        }
+    }
+
+    /// The bytes whose base64 text the word of this number is.
+    pub(crate) fn base64(&self, alloc: Global, number: u32) -> Result<Bytes, Refused<BadLine>>
+        ensures { Gives result (base64_at number self.now) }
+    {
+        or_fault(read_base64(alloc, self.bytes), BadLine::Word(number))
+    }
+
+    /// The text that the word of this number stands for: in base64, or `-` for the empty one.
+    pub(crate) fn text(&self, alloc: Global, number: u32) -> Result<Bytes, Refused<BadLine>>
+        ensures { Gives result (text_at number self.now) }
+    {
+        if self.bytes == b"-".as_slice() {
+            return Ok(Bytes::of(Vec::new(alloc)));
+        }
+        self.base64(alloc, number)
     }
 
     /// The bytes that the coded word of this number stands for.

@@ -4,6 +4,7 @@ ghost use Rattle.std.specs.Prelude.{◌≡◌, IfOk};
 
 use crate::outcome::BadLine;
 use ely_base::{Bytes, CtxId, NoMemory};
+use ely_digest_msg::DigestReply;
 use ely_plain::PlainMsg;
 use ely_row::{Edit, Mech};
 use ely_scram_msg::{ClientFirst, ClientLast};
@@ -12,7 +13,7 @@ use std::alloc::Global;
 /// What a line asks for.
 #[derive(Debug, Drop)]
 pub enum Verb {
-    /// An edit of an identity.
+    /// An edit of an identity, or of all that a realm has.
     Change {
         edit: Edit,
     },
@@ -36,6 +37,13 @@ pub enum Verb {
     Last {
         ctx: CtxId,
         message: ClientLast,
+    },
+    /// The Authorization header of Digest, with the method and the target of its request (RFC 7616 section 3.4).
+    Digest {
+        ctx: CtxId,
+        method: Bytes,
+        target: Bytes,
+        reply: DigestReply,
     },
     /// Asks whether the identity may log in.
     Authorize {
@@ -92,6 +100,17 @@ impl Verb {
             Verb::Last { ctx, message } => Ok(Verb::Last {
                 ctx: *ctx,
                 message: message.copy(alloc)?,
+            }),
+            Verb::Digest {
+                ctx,
+                method,
+                target,
+                reply,
+            } => Ok(Verb::Digest {
+                ctx: *ctx,
+                method: method.copy(alloc)?,
+                target: target.copy(alloc)?,
+                reply: reply.copy(alloc)?,
             }),
             Verb::Authorize { ctx } => Ok(Verb::Authorize { ctx: *ctx }),
             Verb::Succeed { ctx } => Ok(Verb::Succeed { ctx: *ctx }),

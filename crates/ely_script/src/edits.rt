@@ -1,6 +1,5 @@
 //! Reading the arguments of edits, from left to right.
 
-ghost use Rattle.std.specs.Prelude.{◌≡◌};
 ghost use Rattle.ely_base.specs.Refused.{Gives};
 ghost use Rattle.ely_script.specs.EditLines.{add_of, remove_of, cred_at, set_cred_of, drop_cred_of, set_attr_of, drop_attr_of, reload_of};
 
@@ -107,10 +106,18 @@ pub(crate) fn read_drop_attr(alloc: Global, args: Args) -> Result<Verb, Refused<
     })
 }
 
-/// A line with new texts of a realm, which isn't built yet.
-pub(crate) fn read_reload(args: Args) -> Result<Verb, BadLine>
-    ensures { result ≡ reload_of args.entry }
+pub(crate) fn read_reload(alloc: Global, args: Args) -> Result<Verb, Refused<BadLine>>
+    ensures { Gives result (reload_of args.entry) }
 {
-    args.three()?;
-    Err(BadLine::NotBuilt)
+    let (realm, users, groups) = args.three()?;
+    let realm = realm.name(alloc, 3)?;
+    let users = users.text(alloc, 4)?;
+    let groups = groups.text(alloc, 5)?;
+    Ok(Verb::Change {
+        edit: Edit::Reload {
+            realm,
+            users,
+            groups,
+        },
+    })
 }

@@ -13,7 +13,8 @@ use crate::edits::{
 };
 use crate::limits::MAX_LINE_BYTES;
 use crate::logins::{
-    read_allows, read_digest, read_final, read_first, read_only_ctx, read_open, read_plain_line,
+    read_allows, read_digest_line, read_final, read_first, read_only_ctx, read_open,
+    read_plain_line,
 };
 use crate::outcome::BadLine;
 use crate::verbs::{VerbWord, verb_word};
@@ -31,12 +32,12 @@ fn read_args(alloc: Global, verb: VerbWord, args: Args) -> Result<Verb, Refused<
         VerbWord::DropCred => read_drop_cred(alloc, args),
         VerbWord::SetAttr => read_set_attr(alloc, args),
         VerbWord::DropAttr => read_drop_attr(alloc, args),
-        VerbWord::Reload => Ok(read_reload(args)?),
+        VerbWord::Reload => read_reload(alloc, args),
         VerbWord::Open => read_open(alloc, args),
         VerbWord::Plain => read_plain_line(alloc, args),
         VerbWord::First => read_first(alloc, args),
         VerbWord::Final => read_final(alloc, args),
-        VerbWord::Digest => Ok(read_digest(args)?),
+        VerbWord::Digest => read_digest_line(alloc, args),
         VerbWord::Authorize => Ok(Verb::Authorize {
             ctx: read_only_ctx(args)?,
         }),

@@ -2,35 +2,19 @@
 
 ghost use Rattle.std.specs.Prelude.{◌≡◌};
 ghost use Rattle.ely_base.specs.Refused.{Gives};
-ghost use Rattle.ely_script.specs.LoginLines.{built, is_later_mech, mech_at, is_nonce, nonce_at, open_of, message_at, plain_line_of, ctx_rest_of, first_line_of, final_line_of, digest_of, only_ctx_at, permission_at, allows_of};
+ghost use Rattle.ely_script.specs.LoginLines.{mech_at, is_nonce, nonce_at, open_of, message_at, plain_line_of, ctx_rest_of, first_line_of, final_line_of, request_of, digest_line_of, only_ctx_at, permission_at, allows_of};
 
 use crate::args::{Args, Word};
 use crate::command::Verb;
 use crate::limits::{MAX_NONCE_BYTES, MAX_PERMISSION_BYTES};
 use crate::outcome::BadLine;
 use crate::word::mech_word;
-use ely_base::{Bytes, CtxId, Refused, are_printable_but, or_fault, read_base64, refused_as};
+use ely_base::{Bytes, CtxId, Refused, are_printable_but, refused_as};
+use ely_digest_msg::read_authorization;
 use ely_plain::{PlainMsg, read_plain};
 use ely_row::Mech;
 use ely_scram_msg::{read_client_first, read_client_last};
 use std::alloc::Global;
-
-/// Nothing, or that this isn't built yet.
-fn built(later: bool) -> Result<(), BadLine>
-    ensures { result ≡ built later }
-{
-    if later {
-        return Err(BadLine::NotBuilt);
-    }
-    Ok(())
-}
-
-/// Whether a mechanism is one that isn't built yet.
-fn is_later_mech(word: &[u8]) -> bool
-    ensures { result ≡ is_later_mech word.now }
-{
-    word == mech_word(Mech::Digest) || word == mech_word(Mech::DigestSha256)
-}
 
 fn read_mech(word: Word) -> Result<Mech, BadLine>
     ensures { result ≡ mech_at word.entry }
@@ -41,6 +25,10 @@ fn read_mech(word: Word) -> Result<Mech, BadLine>
         Ok(Mech::ScramSha1)
     } else if word.bytes == mech_word(Mech::ScramSha256) {
         Ok(Mech::ScramSha256)
+    } else if word.bytes == mech_word(Mech::Digest) {
+        Ok(Mech::Digest)
+    } else if word.bytes == mech_word(Mech::DigestSha256) {
+        Ok(Mech::DigestSha256)
     } else {
         Err(BadLine::Word(4))
     }
@@ -74,7 +62,6 @@ pub(crate) fn read_open(alloc: Global, args: Args) -> Result<Verb, Refused<BadLi
     let (ctx, args) = args.first()?;
     let (mech, args) = args.first()?;
     let nonce = args.last()?;
-    built(is_later_mech(mech.bytes))?;
     let ctx = ctx.ctx(3)?;
     let mech = read_mech(mech)?;
     let nonce = read_nonce(alloc, nonce)?;
@@ -85,7 +72,7 @@ pub(crate) fn read_open(alloc: Global, args: Args) -> Result<Verb, Refused<BadLi
 fn read_message(alloc: Global, word: Word) -> Result<PlainMsg, Refused<BadLine>>
     ensures { Gives result (message_at word.entry) }
 {
-    let bytes = or_fault(read_base64(alloc, word.bytes), BadLine::Word(4))?;
+    let bytes = word.base64(alloc, 4)?;
     refused_as(read_plain(alloc, bytes.bytes()), BadLine::Plain)
 }
 
@@ -124,15 +111,31 @@ pub(crate) fn read_final(alloc: Global, args: Args) -> Result<Verb, Refused<BadL
     Ok(Verb::Last { ctx, message })
 }
 
-/// A line with a header of Digest, which isn't built yet.
-pub(crate) fn read_digest(args: Args) -> Result<Verb, BadLine>
-    ensures { result ≡ digest_of args.entry }
+/// The login that a line names, the method and the target of its request, and all that stands behind the space behind them.
+fn read_request(args: Args<'_>) -> Result<(CtxId, Word<'_>, Word<'_>, Word<'_>), BadLine>
+    ensures { result ≡ request_of args.entry }
 {
-    let (_, args) = args.first()?;
-    let (_, args) = args.first()?;
-    let (_, args) = args.first()?;
-    args.first()?;
-    Err(BadLine::NotBuilt)
+    let (ctx, args) = args.first()?;
+    let (method, args) = args.first()?;
+    let (target, args) = args.first()?;
+    let rest = args.rest()?;
+    let ctx = ctx.ctx(3)?;
+    let method = method.raw(4)?;
+    let target = target.raw(5)?;
+    Ok((ctx, method, target, rest))
+}
+
+pub(crate) fn read_digest_line(alloc: Global, args: Args) -> Result<Verb, Refused<BadLine>>
+    ensures { Gives result (digest_line_of args.entry) }
+{
+    let (ctx, method, target, rest) = read_request(args)?;
+    let reply = refused_as(read_authorization(alloc, rest.bytes), BadLine::Digest)?;
+    Ok(Verb::Digest {
+        ctx,
+        method: Bytes::copy_of(alloc, method.bytes)?,
+        target: Bytes::copy_of(alloc, target.bytes)?,
+        reply,
+    })
 }
 
 /// The login of a line that has no other argument.

@@ -5,6 +5,7 @@ ghost use Rattle.ely_script.specs.Outcomes.{is_accepted};
 
 use crate::word::StateWord;
 use ely_base::{Bytes, Items, Name, Serial, Version};
+use ely_digest_msg::DigestFault;
 use ely_hash::Tag;
 use ely_plain::PlainFault;
 use ely_row::{CredFault, EditFault, Mech, PipeFault, Place};
@@ -33,8 +34,8 @@ pub enum BadLine {
     Plain(PlainFault),
     /// The message of SCRAM is faulty.
     Scram(MsgFault),
-    /// The program carries out no such line yet: one of Digest, or a reload.
-    NotBuilt,
+    /// The header of Digest is faulty.
+    Digest(DigestFault),
 }
 
 /// What a step answers.

@@ -2,11 +2,12 @@
 
 ghost use Rattle.std.specs.Prelude.{◌≡◌, ◌++◌, codes, OnOk, OnErr};
 ghost use Rattle.ely_base.specs.Appended.{Extends};
-ghost use Rattle.ely_script.specs.FaultTexts.{cred_text, plain_text, kind_text, scram_text, bad_text, prop_text, fault_text, pipe_text};
+ghost use Rattle.ely_script.specs.FaultTexts.{cred_text, plain_text, kind_text, scram_text, header_text, bad_text, prop_text, fault_text, pipe_text};
 
 use crate::outcome::BadLine;
 use crate::write::{push_both, push_counted, push_text, push_worded};
 use ely_base::NoMemory;
+use ely_digest_msg::DigestFault;
 use ely_plain::PlainFault;
 use ely_row::{CredFault, EditFault, PipeFault, PropFault};
 use ely_scram_msg::{MsgFault, MsgKind};
@@ -76,6 +77,35 @@ fn push_scram_message(out: &mut Vec<u8>, fault: MsgFault) -> Result<(), NoMemory
     Ok(())
 }
 
+fn push_header(out: &mut Vec<u8>, fault: DigestFault) -> Result<(), NoMemory>
+    ensures ok { OnOk result (out.new.items ≡ out.old.items ++ header_text fault) }
+    ensures err { OnErr result (Extends out.old.items out.new.items) }
+{
+    match fault {
+        DigestFault::Scheme => push_text(out, b"scheme 0"),
+        DigestFault::Token(offset) => push_counted(out, b"token ", offset as u64),
+        DigestFault::Quote(offset) => push_counted(out, b"quote ", offset as u64),
+        DigestFault::Repeat(field) => push_both(out, b"repeat ", field.text().as_bytes()),
+        DigestFault::Missing(field) => push_both(out, b"missing ", field.text().as_bytes()),
+        DigestFault::Name => push_text(out, b"name"),
+        DigestFault::Nc => push_text(out, b"nc"),
+        DigestFault::Algorithm => push_text(out, b"algorithm"),
+        DigestFault::Qop => push_text(out, b"qop"),
+        DigestFault::Userhash => push_text(out, b"userhash"),
+    }
+}
+
+/// Writes that a header of Digest is faulty.
+fn push_header_message(out: &mut Vec<u8>, fault: DigestFault) -> Result<(), NoMemory>
+    ensures ok { OnOk result
+        (out.new.items ≡ out.old.items ++ (codes "message " ++ header_text fault)) }
+    ensures err { OnErr result (Extends out.old.items out.new.items) }
+{
+    push_text(out, b"message ")?;
+    push_header(out, fault)?;
+    Ok(())
+}
+
 pub(crate) fn push_bad(out: &mut Vec<u8>, bad: BadLine) -> Result<(), NoMemory>
     ensures ok { OnOk result (out.new.items ≡ out.old.items ++ bad_text bad) }
     ensures err { OnErr result (Extends out.old.items out.new.items) }
@@ -91,7 +121,7 @@ pub(crate) fn push_bad(out: &mut Vec<u8>, bad: BadLine) -> Result<(), NoMemory>
         BadLine::Cred(fault) => push_both(out, b"cred ", cred_word(fault)),
         BadLine::Plain(fault) => push_plain_message(out, fault),
         BadLine::Scram(fault) => push_scram_message(out, fault),
-        BadLine::NotBuilt => push_text(out, b"not-built"),
+        BadLine::Digest(fault) => push_header_message(out, fault),
     }
 }
 

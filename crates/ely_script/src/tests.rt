@@ -17,11 +17,13 @@ fn step(verb: &Verb) -> StepWord {
             Edit::DropCred { .. } => StepWord::DropCred,
             Edit::SetAttr { .. } => StepWord::SetAttr,
             Edit::DropAttr { .. } => StepWord::DropAttr,
+            Edit::Reload { .. } => StepWord::Reload,
         },
         Verb::Begin { .. } => StepWord::Begin,
         Verb::Plain { .. } => StepWord::Name1,
         Verb::First { .. } => StepWord::Name1,
         Verb::Last { .. } => StepWord::Check1,
+        Verb::Digest { .. } => StepWord::Name1,
         Verb::Authorize { .. } => StepWord::Authorize,
         Verb::Succeed { .. } => StepWord::Succeed,
         Verb::Fail { .. } => StepWord::Fail,
@@ -64,14 +66,26 @@ const LINES: &[u8] = b"\
     7 drop-cred main u 0\n1 7 1 drop-cred ok\n\
     7 set-attr main u groups a b a\n1 7 1 set-attr ok\n\
     7 drop-attr main u groups\r\n1 7 1 drop-attr ok\n\
+    7 reload main dT0w -\n1 7 1 reload ok\n\
+    7 reload %6dain  \n1 7 1 reload ok\n\
     7 open 4294967295 PLAIN\n1 7 1 open ok\n\
     7 open 1 PLAIN abc\n1 7 1 open ok\n\
     7 open 1 SCRAM-SHA-1 xyz\n1 7 1 open ok\n\
     7 open 1 SCRAM-SHA-256\n1 7 1 open ok\n\
+    7 open 1 DIGEST xyz\n1 7 1 open ok\n\
+    7 open 1 DIGEST-SHA-256\n1 7 1 open ok\n\
     7 plain 1 Ym9iAHVzZXIAcGVuY2ls\n1 7 1 name1 ok\n\
     7 first 1 n,,n=user,r=fyko+d2lbbFgONRv9qkxdawL\n1 7 1 name1 ok\n\
     7 first 1 n,,n=a b,r=c\n1 7 1 name1 ok\n\
     7 final 1 c=biws,r=fyko+d2lbbFgONRv9qkxdawL3rfcNHYJY1ZVvWVs7j,p=v0X8v3Bz2T0CJGbJQyF0X+HI4Ts=\n1 7 1 check1 ok\n\
+    7 digest 1 GET /dir/index.html Digest username=\"Mufasa\", realm=\"http-auth@example.org\", \
+    uri=\"/dir/index.html\", algorithm=MD5, nonce=\"7ypf/xlj9XXwfDPEoM4URrv/xwf94BcCAzFZH4GiTo0v\", \
+    nc=00000001, cnonce=\"f2/wE4q74E6zIJEtWaHKaf5wv/H5QzzpXusqGemxURZJ\", qop=auth, \
+    response=\"8ca523f5e9506fed4657c9700eebdbec\", \
+    opaque=\"FQhe/qaU925kfnzjCev0ciny7QMkPqMAFRtzCUYo5tdS\"\n1 7 1 name1 ok\n\
+    7 digest 1 % * dIGEST  , \
+    ,UserName = \"u\\\"\\\\\" ,realm=\"a  b\",nonce=n,uri=\"\",response=p,nc=\"ffffffff\",cnonce=\"\",\
+    qop=\"\\auth\",algorithm=sha-256,userhash=False,x=\"\\\",\",\n1 7 1 name1 ok\n\
     7 authorize 1\n1 7 1 authorize ok\n\
     7 succeed 1\n1 7 1 succeed ok\n\
     7 fail 1\n1 7 1 fail ok\n\
@@ -119,13 +133,20 @@ const LINES: &[u8] = b"\
     7 drop-attr main u\n1 7 1 bad-line arity\n\
     7 drop-attr main u \n1 7 1 bad-line word 5\n\
     7 reload main u\n1 7 1 bad-line arity\n\
-    7 reload % % %\n1 7 1 bad-line not-built\n\
+    7 reload main - - -\n1 7 1 bad-line arity\n\
+    7 reload % % %\n1 7 1 bad-line word 3\n\
+    7 reload main dT0 %\n1 7 1 bad-line word 4\n\
+    7 reload main - --\n1 7 1 bad-line word 5\n\
+    7 reload main - dT0w\r\n1 7 1 bad-line word 5\n\
     7 open 1\n1 7 1 bad-line arity\n\
     7 open x plain\n1 7 1 bad-line number 3\n\
     7 open 1 plain\n1 7 1 bad-line word 4\n\
     7 open 1 PLAIN a,b\n1 7 1 bad-line word 5\n\
     7 open 1 PLAIN \n1 7 1 bad-line word 5\n\
-    7 open x DIGEST-SHA-256 a,b\n1 7 1 bad-line not-built\n\
+    7 open x DIGEST-SHA-256 a,b\n1 7 1 bad-line number 3\n\
+    7 open 1 digest a\n1 7 1 bad-line word 4\n\
+    7 open 1 DIGEST a\"b\n1 7 1 bad-line word 5\n\
+    7 open 1 DIGEST a\\b\n1 7 1 bad-line word 5\n\
     7 open 1 SCRAM-SHA-1 a b\n1 7 1 bad-line arity\n\
     7 plain 1 =\n1 7 1 bad-line word 4\n\
     7 plain 1 \n1 7 1 bad-line message nul 0\n\
@@ -150,7 +171,40 @@ const LINES: &[u8] = b"\
     7 final 1 c=biws,r=a\n1 7 1 bad-line message trailing 10\n\
     7 final 1 c=biws,r=a,p=eA==,x=y\n1 7 1 bad-line message trailing 17\n\
     7 digest 1 GET /\n1 7 1 bad-line arity\n\
-    7 digest x  / \n1 7 1 bad-line not-built\n\
+    7 digest x  / \n1 7 1 bad-line number 3\n\
+    7 digest 1   \n1 7 1 bad-line word 4\n\
+    7 digest 1 GET  \n1 7 1 bad-line word 5\n\
+    7 digest 1 GET / \n1 7 1 bad-line message scheme 0\n\
+    7 digest 1 GET / Basic x\n1 7 1 bad-line message scheme 0\n\
+    7 digest 1 GET / Digest\n1 7 1 bad-line message scheme 0\n\
+    7 digest 1 GET / Digest username\n1 7 1 bad-line message token 15\n\
+    7 digest 1 GET / Digest username=\"a\n1 7 1 bad-line message quote 16\n\
+    7 digest 1 GET / Digest nc=00000001, NC=00000002\n1 7 1 bad-line message repeat nc\n\
+    7 digest 1 GET / Digest algorithm=x,,Algorithm\n1 7 1 bad-line message repeat algorithm\n\
+    7 digest 1 GET / Digest \n1 7 1 bad-line message missing username\n\
+    7 digest 1 GET / Digest username=u\n1 7 1 bad-line message missing realm\n\
+    7 digest 1 GET / Digest realm=r, username=u\n1 7 1 bad-line message missing nonce\n\
+    7 digest 1 GET / Digest realm=r, nonce=n, username=u\n1 7 1 bad-line message missing uri\n\
+    7 digest 1 GET / Digest realm=r, nonce=n, uri=\"/\", username=u\n1 7 1 bad-line message missing response\n\
+    7 digest 1 GET / Digest realm=r,nonce=n,uri=\"/\",response=p,username=u\n1 7 1 bad-line message missing nc\n\
+    7 digest 1 GET / Digest realm=r,nonce=n,uri=\"/\",response=p,username=u,nc=1\n1 7 1 bad-line message missing cnonce\n\
+    7 digest 1 GET / Digest realm=r,nonce=n,uri=\"/\",response=p,cnonce=c,username=u,nc=1\n1 7 1 bad-line message missing qop\n\
+    7 digest 1 GET / Digest realm=r,nonce=n,uri=\"/\",response=p,cnonce=c,\
+    username=\"\",nc=1,qop=x\n1 7 1 bad-line message name\n\
+    7 digest 1 GET / Digest realm=r,nonce=n,uri=\"/\",response=p,cnonce=c,\
+    username=u,nc=0000001,algorithm=x,qop=auth\n1 7 1 bad-line message nc\n\
+    7 digest 1 GET / Digest realm=r,nonce=n,uri=\"/\",response=p,cnonce=c,\
+    username=u,nc=000000001,qop=auth\n1 7 1 bad-line message nc\n\
+    7 digest 1 GET / Digest realm=r,nonce=n,uri=\"/\",response=p,cnonce=c,\
+    username=u,nc=0000000A,qop=auth\n1 7 1 bad-line message nc\n\
+    7 digest 1 GET / Digest realm=r,nonce=n,uri=\"/\",response=p,cnonce=c,\
+    username=u,nc=0000000a,algorithm=MD5-sess,qop=x\n1 7 1 bad-line message algorithm\n\
+    7 digest 1 GET / Digest realm=r,nonce=n,uri=\"/\",response=p,cnonce=c,\
+    username=u,nc=0000000a,qop=auth-int,userhash=true\n1 7 1 bad-line message qop\n\
+    7 digest 1 GET / Digest realm=r,nonce=n,uri=\"/\",response=p,cnonce=c,\
+    username=u,nc=0000000a,qop=AUTH\n1 7 1 bad-line message qop\n\
+    7 digest 1 GET / Digest realm=r,nonce=n,uri=\"/\",response=p,cnonce=c,\
+    username=u,nc=0000000a,qop=auth,userhash=true\n1 7 1 bad-line message userhash\n\
     7 authorize 4294967296\n1 7 1 bad-line number 3\n\
     7 close 1\r\n1 7 1 bad-line number 3\n\
     7 allows 1 \n1 7 1 bad-line word 4\n\
@@ -159,7 +213,7 @@ const LINES: &[u8] = b"\
 #[test]
 fn lines_are_read_or_told_by_their_first_fault(rt: HostRuntime) -> Result<(), Fail> {
     let mut rest = LINES;
-    for row in 0..96 {
+    for row in 0..134 {
         let (line, behind) = cut_at(rest, b'\n');
         let (wanted, behind) = cut_at(behind.unwrap_or(b""), b'\n');
         let told = told(rt.alloc(), line)?;

@@ -1,8 +1,9 @@
 -- A write at the index of a realm's table is a change of that realm alone.
-use Rattle.std.proofs.Common.{◌≡◌, ℕ, ◌<◌, ◌≤◌, Bool, true, false, cond, List, map, length, get_or, set, Option, Some, None, sym, ap, ◌∙◌, subst, ⊎_elim, position, arith, ltb}
-use Rattle.std.specs.List.{position_or_len}
+use Rattle.std.proofs.Common.{◌≡◌, ℕ, zero, suc, refl, ◌<◌, ◌≤◌, Bool, true, false, cond, List, [], ◌∷◌, map, length, get_or, set, Option, Some, None, sym, ap, ◌∙◌, subst, ⊎_elim, position, arith, ltb}
+use Rattle.std.specs.List.{position_or_len, list_all}
+use Rattle.std.specs.Option.{option_map}
 use Rattle.std.specs.Str.{bytes_eq}
-use Rattle.std.proofs.lemmas.Bool.{cases_Bool, cases_lt, lt-ltb, cond-true, cond-false}
+use Rattle.std.proofs.lemmas.Bool.{and_parts, cases_Bool, cases_lt, lt-ltb, cond-true, cond-false}
 use Rattle.std.proofs.lemmas.List.{map-set, set-get_or, get_or-map}
 use Rattle.std.proofs.lemmas.List.Folds.{find_at, find-set, find_past}
 use Rattle.std.proofs.lemmas.List.Quantifiers.{position-Some}
@@ -10,6 +11,8 @@ use Rattle.std.proofs.lemmas.Option.{slice_get-get_or, slice_get_past, cond_some
 use Rattle.std.proofs.lemmas.Slice.Eq.{bytes_eq-Decides}
 use Rattle.ely_table.specs.declared.class.RealmClass.{RealmClass}
 use Rattle.ely_table.specs.declared.table.Table.{Table}
+use Rattle.ely_table.specs.Reloads.{is_class}
+use Rattle.ely_table.specs.Faults.{class_of, has_realm}
 use Rattle.ely_table.specs.Kept.{realms_of, table_of}
 
 -- bytes that pass the test are the same
@@ -29,6 +32,21 @@ table_at ts r at d h =
 
 none_past : (m n : ℕ) → ◌≡◌ {A = Option ℕ} None (cond (ltb m n) (Some m) None) → n ≤ m
 none_past m n h = ⊎_elim (λ (l : m < n). absurd (grind (arith, lt-ltb m n l))) (λ (l : n ≤ m). l) (cases_lt m n)
+
+-- the class of a realm is that of its table
+pub class_in : (ts : List Table) (r : List ℕ) → class_of (realms_of ts) r ≡ option_map (λ (t : Table). t.class) (table_of ts r)
+class_in [] r = refl
+class_in (t ∷ ts) r = by_test (bytes_eq t.name r) (class_in ts r)
+  where
+    by_test : (b : Bool) → class_of (realms_of ts) r ≡ option_map (λ (x : Table). x.class) (table_of ts r) → cond b (Some t.class) (class_of (realms_of ts) r) ≡ option_map (λ (x : Table). x.class) (cond b (Some t) (table_of ts r))
+    by_test true rest = refl
+    by_test false rest = rest
+
+-- the fallback of each table is a realm
+pub has_class : (ts : List Table) (at : ℕ) (d : Table) → at < length ts → list_all has_realm (realms_of ts) ≡ true → is_class (get_or ts at d).class ≡ true
+has_class [] at d low all = absurd (omega arith)
+has_class (t ∷ ts) zero d low all = (and_parts (is_class t.class) (list_all has_realm (realms_of ts)) all).0
+has_class (t ∷ ts) (suc at) d low all = has_class ts at d (omega arith) (and_parts (is_class t.class) (list_all has_realm (realms_of ts)) all).1
 
 -- there is no index where there is no table
 pub no_table : (ts : List Table) (r : List ℕ) → position (λ (t : Table). bytes_eq t.name r) ts ≡ None → table_of ts r ≡ None

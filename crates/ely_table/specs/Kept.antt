@@ -1,16 +1,15 @@
 -- What the tables of all realms say, and that they say what the journal says.
-use Rattle.std.specs.Prelude.{◌≡◌, ℕ, ◌+◌, ◌-◌, ◌≤◌, IsTrue, if◌then◌else◌, List, [], ◌∷◌, map, find, length, Option}
-use Rattle.std.specs.List.{AllByRecursion}
+use Rattle.std.specs.Prelude.{◌≡◌, ℕ, ◌+◌, ◌≤◌, IsTrue, if◌then◌else◌, List, [], ◌∷◌, map, find, length, Option}
+use Rattle.std.specs.List.{AllByRecursion, list_all}
 use Rattle.std.specs.Str.{bytes_eq}
 use Rattle.ely_row.specs.declared.edit.Edit.{Edit}
-use Rattle.ely_row.specs.declared.edit.Edit.TheVariants.{Add, Remove}
 use Rattle.ely_row.specs.Rows.{Row}
-use Rattle.ely_row.specs.Edits.{Texts, is_of, row, row_after}
+use Rattle.ely_row.specs.Edits.{Texts, realm_of, is_of, row, row_after}
 use Rattle.ely_table.specs.declared.class.RealmClass.{RealmClass}
 use Rattle.ely_table.specs.declared.table.Table.{Table}
-use Rattle.ely_table.specs.Entries.{entry_in, entry_row, entry_last, rows_in}
+use Rattle.ely_table.specs.Entries.{row_in, last_in, rows_in, rows_after}
 use Rattle.ely_table.specs.Counts.{row_count}
-use Rattle.ely_table.specs.Faults.{are_apart, texts_of, IsAccepted}
+use Rattle.ely_table.specs.Faults.{are_apart, has_realm, texts_of, IsAccepted}
 
 -- the realms of the tables, with their classes
 abbrev pub realms_of : List Table → List (List ℕ × RealmClass)
@@ -22,11 +21,11 @@ table_of tables r = find (λ table. bytes_eq table.name r) tables
 
 -- the row that is kept of the name
 abbrev pub row_of : List Table → List ℕ → List ℕ → Option Row
-row_of tables r n = entry_row (entry_in (table_of tables r) n)
+row_of tables r n = row_in (table_of tables r) n
 
 -- the number that is kept of the last edit of the name
 abbrev pub last_of : List Table → List ℕ → List ℕ → ℕ
-last_of tables r n = entry_last (entry_in (table_of tables r) n)
+last_of tables r n = last_in (table_of tables r) n
 
 -- the number of rows that is kept of the realm
 abbrev pub count_of : List Table → List ℕ → ℕ
@@ -42,23 +41,21 @@ unfoldable pub last_touch : List Edit → List ℕ → List ℕ → ℕ
 last_touch edits r n = last_from r n 0 0 edits
 
 -- how many rows are kept of the realm after an edit that was accepted, where so many were before it
-abbrev pub count_after : List ℕ → ℕ → Edit → ℕ
-count_after r count (Add realm name) = if bytes_eq realm r then count + 1 else count
-count_after r count (Remove realm name) = if bytes_eq realm r then count - 1 else count
-count_after r count _ = count
+abbrev pub count_after : Texts → List ℕ → ℕ → Edit → ℕ
+count_after texts r count edit = if bytes_eq (realm_of edit) r then rows_after texts count edit else count
 
 -- the tables say of every name and of every realm what the edits make of it
 pub record AreKept (texts : Texts) (tables : List Table) (edits : List Edit) : Type 0 where
   pub rows : (r n : List ℕ) → row_of tables r n ≡ row texts edits r n
   pub lasts : (r n : List ℕ) → last_of tables r n ≡ last_touch edits r n
-  pub counts : (r : List ℕ) → count_of tables r ≡ row_count edits r
+  pub counts : (r : List ℕ) → count_of tables r ≡ row_count texts edits r
 
 -- the edit is made, and has this number
 pub record IsStep (old new : List Table) (edit : Edit) (number : ℕ) : Type 0 where
   pub realms : realms_of new ≡ realms_of old
   pub rows : (r n : List ℕ) → row_of new r n ≡ row_after (texts_of (realms_of old)) r n (row_of old r n) edit
   pub lasts : (r n : List ℕ) → last_of new r n ≡ (if is_of r n edit then number else last_of old r n)
-  pub counts : (r : List ℕ) → count_of new r ≡ count_after r (count_of old r) edit
+  pub counts : (r : List ℕ) → count_of new r ≡ count_after (texts_of (realms_of old)) r (count_of old r) edit
 
 -- nothing is changed that is kept
 pub record IsSame (old new : List Table) : Type 0 where
@@ -72,9 +69,10 @@ pub record IsRecord (limit : ℕ) (tables : List Table) (journal : List Edit) : 
   pub few : limit ≤ 131072
   pub within : length journal ≤ limit
   pub apart : IsTrue (are_apart (realms_of tables))
+  pub fallbacks : IsTrue (list_all has_realm (realms_of tables))
   pub accepted : IsAccepted (realms_of tables) limit journal
   pub kept : AreKept (texts_of (realms_of tables)) tables journal
 
 -- nothing is kept of any name
 abbrev pub AreEmpty : List Table → Type 0
-AreEmpty tables = AllByRecursion (λ table. (table.entries.entries ≡ []) × (table.rows ≡ 0)) tables
+AreEmpty tables = AllByRecursion (λ table. (table.entries.entries ≡ []) × (table.rows ≡ 0) × (table.reloaded ≡ 0)) tables

@@ -1,4 +1,5 @@
 pub mod Counts
+pub mod Reloads
 pub mod Faults
 pub mod Touching
 pub mod Entries

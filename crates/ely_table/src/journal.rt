@@ -1,17 +1,17 @@
 //! All realms and the journal: how a realm is found in them, and how an edit is made in all of them or in none.
 
-ghost use Rattle.std.specs.Prelude.{◌≡◌, ◌+◌, ◌<◌, ◌^◌, [], ◌∷◌, ◌++◌, length, nat_lt, nat_le, if◌then◌else◌, position, vec_len, IfOk, OnOk, OnErr};
-ghost use Rattle.std.specs.List.{list_any};
+ghost use Rattle.std.specs.Prelude.{◌≡◌, ◌+◌, ◌<◌, ◌^◌, IsTrue, [], ◌∷◌, ◌++◌, length, nat_lt, position, vec_len, None, IfOk, IfErr, OnOk, OnErr};
+ghost use Rattle.std.specs.List.{list_any, list_all};
 ghost use Rattle.std.specs.Vec.{vec_capacity};
 ghost use Rattle.std.specs.Option.{option_copied};
 ghost use Rattle.std.specs.Str.{bytes_eq};
-ghost use Rattle.ely_row.specs.declared.edit.EditFault.TheVariants.{JournalFull};
 ghost use Rattle.ely_row.specs.Edits.{realm_of};
-ghost use Rattle.ely_table.specs.Entries.{kept_fault, entry_row, entry_last};
-ghost use Rattle.ely_table.specs.Kept.{table_of, row_of, last_of, IsStep, IsSame};
+ghost use Rattle.ely_table.specs.Entries.{kept_fault, entry_row};
+ghost use Rattle.ely_table.specs.Faults.{has_realm, IsRefusal};
+ghost use Rattle.ely_table.specs.Kept.{realms_of, table_of, row_of, last_of, IsStep, IsSame};
 
-use crate::table::{Entry, Table, entry_row, kept_fault, take};
-use ely_base::{Name, NoMemory};
+use crate::table::{self, Entry, Table, entry_row, take};
+use ely_base::{Name, NoMemory, Refused};
 use ely_row::{Deps, Edit, EditFault, Row, SharedRow};
 use std::alloc::Global;
 
@@ -30,9 +30,8 @@ fn index_of(tables: &[Table], realm: &Name) -> Option<usize>
 }
 
 /// What is kept of the name in the realm.
-pub fn entry_of<'a>(tables: &'a [Table], realm: &Name, name: &Name) -> Option<&'a Entry>
-    ensures row { entry_row (option_copied result) ≡ row_of tables.now realm.now name.now }
-    ensures last { entry_last (option_copied result) ≡ last_of tables.now realm.now name.now }
+fn entry_of<'a>(tables: &'a [Table], realm: &Name, name: &Name) -> Option<&'a Entry>
+    ensures { entry_row (option_copied result) ≡ row_of tables.now realm.now name.now }
 {
     table_of(tables, realm)?.entries.get(name)
 }
@@ -65,9 +64,9 @@ pub fn row_shared(
 fn last_of(tables: &[Table], realm: &Name, name: &Name) -> u64
     ensures { result ≡ last_of tables.now realm.now name.now }
 {
-    match entry_of(tables, realm, name) {
+    match table_of(tables, realm) {
         None => 0,
-        Some(entry) => entry.last,
+        Some(table) => table::last_of(table, name),
     }
 }
 
@@ -81,25 +80,24 @@ pub fn any_later(tables: &[Table], seen: u64, deps: &Deps) -> bool
         .any(|place| seen < last_of(tables, &place.0, &place.1))
 }
 
-/// Why the edit is refused, where the journal has `made` edits and takes `limit`.
-pub fn fault_of(tables: &[Table], limit: u32, made: usize, edit: &Edit) -> Option<EditFault>
-    ensures { result ≡ (if nat_le limit made then Some (JournalFull limit)
-        else kept_fault (table_of tables.now (realm_of edit.now)) edit.now) }
-{
-    if made >= limit as usize {
-        return Some(EditFault::JournalFull(limit));
-    }
-    kept_fault(table_of(tables, edit.realm()), edit)
-}
-
-/// Makes an edit that has no fault in its table, the one of this number. Where memory runs out, all stays as it was.
-fn put(alloc: Global, tables: &mut [Table], edit: &Edit, number: u64) -> Result<(), NoMemory>
-    requires { kept_fault (table_of tables.old (realm_of edit.now)) edit.now ≡ None }
+/// Makes the edit in its table, the one of this number, or says why it is refused. Where it is refused, and where memory
+/// runs out, all stays as it was.
+fn put(
+    alloc: Global,
+    tables: &mut [Table],
+    edit: &Edit,
+    number: u64,
+) -> Result<(), Refused<EditFault>>
+    requires { IsTrue (list_all has_realm (realms_of tables.old)) }
+    ensures accepted { OnOk result
+        (kept_fault (table_of tables.old (realm_of edit.now)) edit.now ≡ None) }
+    ensures refused { IfErr result (λ refusal. IsRefusal refusal
+        (kept_fault (table_of tables.old (realm_of edit.now)) edit.now)) }
     ensures ok { OnOk result (IsStep tables.old tables.new edit.now number) }
     ensures err { OnErr result (IsSame tables.old tables.new) }
 {
     let Some(at) = index_of(tables, edit.realm()) else {
-        unreachable!();
+        return Err(Refused::Fault(EditFault::NoRealm));
     };
     let table = &mut tables[at];
     take(alloc, table, edit, number)
@@ -116,15 +114,19 @@ fn append(journal: &mut Vec<Edit>, edit: Edit)
     }
 }
 
-/// Makes an edit that has no fault, in its table and in the journal. Where memory runs out, all stays as it was.
+/// Makes the edit, in its table and in the journal, or says why it is refused. Where it is refused, and where memory runs
+/// out, all stays as it was.
 pub fn record(
     alloc: Global,
     tables: &mut [Table],
     journal: &mut Vec<Edit>,
     edit: Edit,
-) -> Result<(), NoMemory>
-    requires fault { kept_fault (table_of tables.old (realm_of edit)) edit ≡ None }
+) -> Result<(), Refused<EditFault>>
+    requires realms { IsTrue (list_all has_realm (realms_of tables.old)) }
     requires few { length journal.old.items < 2 ^ 32 }
+    ensures accepted { OnOk result (kept_fault (table_of tables.old (realm_of edit)) edit ≡ None) }
+    ensures refused { IfErr result (λ refusal. IsRefusal refusal
+        (kept_fault (table_of tables.old (realm_of edit)) edit)) }
     ensures journal { OnOk result (journal.new.items ≡ journal.old.items ++ edit ∷ []) }
     ensures tables { OnOk result
         (IsStep tables.old tables.new edit (length journal.old.items + 1)) }

@@ -1,14 +1,15 @@
 //! The tables that the accepted edits made, with the journal of those edits.
 
 ghost use Rattle.std.specs.Prelude.{◌≡◌, ◌+◌, ◌-◌, ◌≤◌, IsTrue, [], length, slice_get, IfOk, IfErr, OnOk, OnErr};
+ghost use Rattle.std.specs.List.{list_all};
 ghost use Rattle.std.specs.Option.{option_copied};
 ghost use Rattle.ely_row.specs.Edits.{row};
-ghost use Rattle.ely_table.specs.Faults.{are_apart, texts_of, fault, IsAccepted, IsRefusal, recorded};
+ghost use Rattle.ely_table.specs.Faults.{are_apart, has_realm, texts_of, fault, IsAccepted, IsRefusal, recorded};
 ghost use Rattle.ely_table.specs.Touching.{touched_since};
 ghost use Rattle.ely_table.specs.Kept.{realms_of, AreEmpty};
 
 use crate::class::RealmClass;
-use crate::journal::{any_later, fault_of, record, row_of, row_shared};
+use crate::journal::{any_later, record, row_of, row_shared};
 use crate::table::Table;
 use ely_base::{Name, NoMemory, Refused, Version};
 use ely_row::{Deps, Edit, EditFault, Row, RowSource, SharedRow};
@@ -48,19 +49,22 @@ fn empty_tables(alloc: Global, realms: Vec<(Name, RealmClass)>) -> Result<Vec<Ta
             class,
             entries: BTreeMap::new(alloc),
             rows: 0,
+            reloaded: 0,
         })?;
     }
     Ok(tables)
 }
 
 impl Tables {
-    /// Tables of these realms, whose names differ, without edits. Their journal takes this many.
+    /// Tables of these realms, whose names differ, without edits. The fallback of each properties realm is a Digest realm.
+    /// Their journal takes this many.
     pub fn new(
         alloc: Global,
         realms: Vec<(Name, RealmClass)>,
         journal_limit: u32,
     ) -> Result<Tables, NoMemory>
         requires apart { IsTrue (are_apart realms.items) }
+        requires fallbacks { IsTrue (list_all has_realm realms.items) }
         requires some { 1 ≤ journal_limit }
         requires most { journal_limit ≤ 131072 }
         ensures { IfOk result (λ tables. tables
@@ -84,8 +88,8 @@ impl Tables {
             (fault self.old.realms self.old.limit self.old.journal edit)) }
         ensures err { OnErr result (self.new ≡ self.old) }
     {
-        if let Some(fault) = fault_of(&self.tables, self.limit, self.journal.len(), &edit) {
-            return Err(Refused::Fault(fault));
+        if self.journal.len() >= self.limit as usize {
+            return Err(Refused::Fault(EditFault::JournalFull(self.limit)));
         }
         record(alloc, &mut self.tables, &mut self.journal, edit)?;
         Ok(Version(self.journal.len() as u64))

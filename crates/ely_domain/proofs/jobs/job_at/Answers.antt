@@ -1,5 +1,7 @@
-use Rattle.std.proofs.Common.{sym}
+use Rattle.std.proofs.Common.{◌≡◌, sym, ap, subst, ◌∙◌, IfOk}
 use Rattle.ely_domain.specs.Contexts.{read_of}
+use Rattle.ely_domain.specs.Jobs.{check_job}
+use Rattle.ely_domain.specs.Verdicts.{said_by, server_first}
 use Rattle.ely_domain.proofs.Sounds.{evidence_fits, message_fits}
 use Rattle.ely_domain.proofs.Working.{checking_job}
 use Rattle.ely_domain.proofs.jobs.job_at.Goals as goal
@@ -18,6 +20,12 @@ returns-in-Some-checking c =
     let key = c.in-Some-checking.naming.now in
     let evidence = c.in-Some-checking.evidence.now in
     let parts = sym c.in-Some-checking.ensures in
+    let realm = c.digest_realm-realm.result.now in
+    let nonce = c.nonce-nonce.result.now in
     let text = message_fits known login.serial login.mech login.nonce login.stage pin key evidence c.requires parts in
-    rw (c.nonce.ensures, checking_job known login.serial login.mech login.nonce login.stage pin key evidence parts c.requires)
-    at (c.check_job.ensures known.given (rw c.nonce.ensures text))
+    let fits = subst (λ n. key.server_first ≡ server_first (said_by realm n pin.claim) key.ready) (sym c.nonce-nonce.ensures) text in
+    let is =
+    ap (λ r. check_job (said_by r nonce pin.claim) key.ready evidence) c.digest_realm-realm.ensures.value
+    ∙ ap (λ n. check_job (said_by known.given.config.digest_realm n pin.claim) key.ready evidence) c.nonce-nonce.ensures
+    ∙ checking_job known login.serial login.mech login.nonce login.stage pin key evidence parts c.requires in
+    subst (λ w. IfOk c.check_job.result (λ job. job ≡ w)) is (c.check_job.ensures fits)

@@ -1,6 +1,6 @@
 use Rattle.std.proofs.Common.{sym}
 use Rattle.ely_domain.specs.Contexts.{read_of}
-use Rattle.ely_domain.proofs.Moving.{none_answered, found_all, found_cost, moved_stays, kept_both}
+use Rattle.ely_domain.proofs.Moving.{none_answered, found_all, found_cost, moved_stays, kept_all}
 use Rattle.ely_domain.proofs.Working.{brings_found}
 use Rattle.ely_domain.proofs.login_step.login_step.Goals as goal
 
@@ -9,12 +9,13 @@ answer_found-requires-clause-sound g c = c.requires.sound c.args.id c.in-Some.co
 
 pub returns-in-None-clause-answer : goal.returns-in-None-clause-answer
 returns-in-None-clause-answer g c =
-    rw c.not_there-outcome.ensures (none_answered (read_of c.args.config.now c.args.tables.now) c.args.logins.now c.args.event c.args.id c.in-None.ensures.value)
+    rw c.not_there-outcome.ensures (none_answered (read_of c.args.config.now c.args.tables.now) c.args.logins.now c.args.nonces.now c.args.event c.args.id c.in-None.ensures.value)
 
 pub returns-in-Some-clause-answer : goal.returns-in-Some-clause-answer
 returns-in-Some-clause-answer g c =
-    found_all (read_of c.args.config.now c.args.tables.now) c.args.logins.now c.args.event c.args.id c.in-Some.context.now c.answer_found.new.context
-    c.answer_found.result c.in-Some.ensures.rise (sym c.in-Some.ensures.value) c.answer_found.ensures.answer
+    found_all (read_of c.args.config.now c.args.tables.now) c.args.logins.now c.args.nonces.now c.args.event c.args.id c.in-Some.context.now
+    c.answer_found.new.context c.answer_found.result c.answer_found.new.nonces c.in-Some.ensures.rise (sym c.in-Some.ensures.value)
+    c.answer_found.ensures.answer c.answer_found.ensures.used
 
 pub returns-in-Some-clause-sound : goal.returns-in-Some-clause-sound
 returns-in-Some-clause-sound g c =
@@ -23,15 +24,15 @@ returns-in-Some-clause-sound g c =
 
 pub returns-in-Some-clause-err : goal.returns-in-Some-clause-err
 returns-in-Some-clause-err g c =
-    kept_both c.answer_found.result c.args.logins.now c.args.handouts.now _ c.args.id c.in-Some.context.now _
+    kept_all c.answer_found.result c.args.logins.now c.args.nonces.now _ c.args.handouts.now _ c.args.id c.in-Some.context.now _
     c.in-Some.ensures.rise (sym c.in-Some.ensures.value) c.answer_found.ensures.err
 
 pub returns-in-Some-clause-cost : goal.returns-in-Some-clause-cost
 returns-in-Some-clause-cost g c =
-    found_cost (read_of c.args.config.now c.args.tables.now) c.args.logins.now c.args.event c.args.id c.in-Some.context.now _ _
+    found_cost (read_of c.args.config.now c.args.tables.now) c.args.logins.now c.args.nonces.now c.args.event c.args.id c.in-Some.context.now _ _
     (sym c.in-Some.ensures.value) c.answer_found.ensures.cost
 
 pub returns-in-Some-clause-brought : goal.returns-in-Some-clause-brought
 returns-in-Some-clause-brought g c = λ brought.
     c.answer_found.ensures.brought
-    (brings_found (read_of c.args.config.now c.args.tables.now) c.args.logins.now c.args.id c.in-Some.context.now c.args.event c.in-Some.ensures.value brought)
+    (brings_found (read_of c.args.config.now c.args.tables.now) c.args.logins.now c.args.nonces.now c.args.id c.in-Some.context.now c.args.event c.in-Some.ensures.value brought)

@@ -1,25 +1,54 @@
-use Rattle.std.proofs.Common.{sym, refl, ◌∙◌}
-use Rattle.ely_domain.specs.Contexts.{read_of}
+use Rattle.std.proofs.Common.{◌≡◌, ◌+◌, sym, refl, ap, subst, ◌∙◌}
+use Rattle.ely_script.specs.declared.outcome.Outcome.TheVariants as outcomes
+use Rattle.ely_domain.specs.Contexts.{read_of, seen_live}
+use Rattle.ely_domain.specs.Domains.{Seen}
 use Rattle.ely_domain.specs.Given.{Given}
+use Rattle.ely_domain.specs.Machine.{Stepped, alg_of, challenge, opening_fault, begin}
 use Rattle.ely_domain.proofs.Moving.{moved_stays}
-use Rattle.ely_domain.proofs.Opening.{none_there, begun}
+use Rattle.ely_domain.proofs.Openings.{none_there, unused, begun}
 use Rattle.ely_domain.proofs.domain.Domain.begin.Goals as goal
 
-pub open-requires : goal.open-requires
-open-requires c = none_there c.self.inside.logins c.args.id (sym c.opening_fault.ensures ∙ c.in_default.is)
+pub open-requires-clause-absent : goal.open-requires-clause-absent
+open-requires-clause-absent c =
+    let logins = c.self.inside.logins in
+    let nonces = c.self.inside.nonces in
+    let nonce = c.in_ok-nonce.nonce in
+    none_there logins nonces c.args.id nonce (alg_of c.args.mech)
+    (ap (λ a. opening_fault (seen_live logins nonces) c.args.id nonce a) (sym c.alg_of-alg.ensures) ∙ sym c.opening_fault.ensures ∙ c.in_default.is)
+
+pub open-requires-clause-unused : goal.open-requires-clause-unused
+open-requires-clause-unused c =
+    let logins = c.self.inside.logins in
+    let nonces = c.self.inside.nonces in
+    let nonce = c.in_ok-nonce.nonce in
+    unused logins nonces c.args.id nonce (alg_of c.args.mech)
+    (ap (λ a. opening_fault (seen_live logins nonces) c.args.id nonce a) (sym c.alg_of-alg.ensures) ∙ sym c.opening_fault.ensures ∙ c.in_default.is)
 
 pub invariant_of-self : goal.invariant_of-self
-invariant_of-self c = rw c.in_err-open.ensures.err c.self.invariant
+invariant_of-self c = rw c.in_err-open.ensures.err.0 c.self.invariant
 
 pub invariant_of-self-2 : goal.invariant_of-self-2
 invariant_of-self-2 c =
     let kept = c.self.invariant in
-    rw (c.in_ok-open.ensures.opened, c.begin.ensures)
+    rw c.in_ok-open.ensures.opened
     (kept.0, moved_stays (read_of c.self.inside.config c.self.inside.tables) c.self.inside.logins c.self.inside.handouts c.self.inside.handouts c.args.id _ kept.1 (λ other apart. refl) (tt, tt))
 
 pub returns-clause-ok : goal.returns-clause-ok
 returns-clause-ok c =
     let given : Given = record { config = c.self.inside.config; limit = c.self.inside.tables.limit } in
-    rw (← c.self.view_is, c.in_ok-open.ensures.opened, c.begin.ensures)
-    (begun c.self.inside.logins c.args.id given c.self.inside.tables.journal c.self.inside.opened c.args.mech c.args.brought c.in_ok-nonce.nonce
-    (c.in_ok-nonce.ensures given.limit) (sym c.opening_fault.ensures ∙ c.in_default.is))
+    let logins = c.self.inside.logins in
+    let nonces = c.self.inside.nonces in
+    let nonce = c.in_ok-nonce.nonce in
+    let none = ap (λ a. opening_fault (seen_live logins nonces) c.args.id nonce a) (sym c.alg_of-alg.ensures) ∙ sym c.opening_fault.ensures ∙ c.in_default.is in
+    let text = c.in_ok-challenge.ensures given.limit ∙ ap (λ a. challenge given nonce a) c.alg_of-alg.ensures in
+    let opens = begun logins nonces c.args.id given c.self.inside.tables.journal c.self.inside.opened c.args.mech c.args.brought nonce
+    c.in_ok-challenge.challenge c.open.new.logins c.open.new.nonces (c.in_ok-nonce.ensures given.limit) none text
+    c.in_ok-open.ensures.opened c.in_ok-open.ensures.issued in
+    subst (λ (s : Seen). ◌≡◌ {A = Stepped} (
+      outcomes.Opened (c.self.inside.opened + 1) c.in_ok-challenge.challenge,
+      record {
+        edits = c.self.inside.tables.journal;
+        live = seen_live c.open.new.logins c.open.new.nonces;
+        opened = c.self.inside.opened + 1;
+      },
+    ) (begin s.given s.machine c.args.id c.args.mech c.args.brought)) c.self.view_is opens

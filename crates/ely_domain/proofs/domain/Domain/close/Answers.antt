@@ -1,7 +1,7 @@
 use Rattle.std.proofs.Common.{refl, ◌∙◌}
 use Rattle.ely_domain.specs.Contexts.{read_of}
 use Rattle.ely_domain.proofs.Moving.{closed_stays}
-use Rattle.ely_domain.proofs.Opening.{closed_is}
+use Rattle.ely_domain.proofs.Openings.{closed_is}
 use Rattle.ely_domain.proofs.domain.Domain.close.Goals as goal
 use Rattle.ely_domain.proofs.domain.Domain.close.Goals.{then-close, else-close}
 
@@ -13,7 +13,7 @@ invariant_of-self c =
 
 pub returns-clause-ok : goal.returns-clause-ok
 returns-clause-ok c =
-    let is = closed_is c.self.inside.logins c.args.id c.self.inside.tables.journal c.self.inside.opened c.close.result in
+    let is = closed_is c.self.inside.logins c.self.inside.nonces c.args.id c.self.inside.tables.journal c.self.inside.opened c.close.result in
     rw (← c.self.view_is, c.close.ensures.closed) (elim c.if-close.branch [
       | then-close w ↦ is c.if-close.result c.close.ensures.there (w.result-is ∙ rw w.if-close.true refl)
       | else-close w ↦ is c.if-close.result c.close.ensures.there (w.result-is ∙ rw w.if-close.false refl)

@@ -1,0 +1,125 @@
+-- Realms that are taken one after another, and what holds of realms all of which are taken.
+use Rattle.std.proofs.Common.{◌≡◌, ℕ, ◌+◌, ◌<◌, ◌≤◌, Bool, true, false, cond, List, [], ◌∷◌, ◌++◌, length, take, drop, Option, Some, None, get_or, refl, sym, ap, subst, ◌∙◌, ◌||◌, append_assoc, append-nil, IsTrue, bytes_eq, codes, arith}
+use Rattle.std.specs.Prelude.{slice_get}
+use Rattle.std.specs.List.{list_any}
+use Rattle.std.proofs.lemmas.List.{length-take-le, take_more, drop_more, drop_all}
+use Rattle.std.proofs.lemmas.List.Folds.{list_any-append}
+use Rattle.std.proofs.lemmas.Bool.{or_parts}
+use Rattle.ely_row.specs.Salts.{is_realm}
+use Rattle.ely_config.specs.declared.realm.RealmConfig.{RealmConfig}
+use Rattle.ely_config.specs.declared.fault.RealmFault.{RealmFault}
+use Rattle.ely_config.specs.declared.fault.RealmFault.TheVariants as faults
+use Rattle.ely_config.specs.declared.fault.ConfigFault.{ConfigFault}
+use Rattle.ely_config.specs.declared.fault.ConfigFault.TheVariants.{DigestRealm, Realms, Realm}
+use Rattle.ely_config.specs.Configs.{kind_fault, is_named, realm_fault, at_realm, realms_fault, are_few, config_fault, main_realm, IsSound}
+
+-- the realms in front of this index are taken
+pub record Passed (digest_realm : List ℕ) (realms : List RealmConfig) (at : ℕ) : Type 0 where
+  pub within : at ≤ length realms
+  pub left : realms_fault digest_realm [] realms ≡ realms_fault digest_realm (take at realms) (drop at realms)
+
+module _ (digest_realm : List ℕ) (realms : List RealmConfig) (at : ℕ) (realm : RealmConfig)
+    (here : at < length realms) (is : realm ≡ get_or realms at realm) where
+  in_front : length (take at realms) ≡ at
+  in_front = length-take-le at realms (omega (arith, here))
+
+  behind : drop at realms ≡ realm ∷ drop (at + 1) realms
+  behind =
+      drop_more realms at realm here
+      ∙ ap (λ r. r ∷ drop (at + 1) realms) (sym is)
+
+  one_more : take (at + 1) realms ≡ take at realms ++ realm ∷ []
+  one_more =
+      take_more realms at realm here
+      ∙ ap (λ r. take at realms ++ r ∷ []) (sym is)
+
+  unfolded : realms_fault digest_realm (take at realms) (drop at realms)
+      ≡ at_realm at (realm_fault digest_realm (take at realms) realm) (realms_fault digest_realm (take (at + 1) realms) (drop (at + 1) realms))
+  unfolding realms_fault
+  unfolded = rw (behind, one_more, in_front) refl
+
+  -- the realm at the index is the first that isn't taken
+  pub refused : (fault : RealmFault) → Passed digest_realm realms at → realm_fault digest_realm (take at realms) realm ≡ Some fault
+      → Some (Realm at fault) ≡ realms_fault digest_realm [] realms
+  refused fault passed taken = sym (passed.left ∙ unfolded ∙ rw taken refl)
+
+  -- it is taken
+  pub passes : Passed digest_realm realms at → realm_fault digest_realm (take at realms) realm ≡ None → Passed digest_realm realms (at + 1)
+  passes passed taken = record {
+    within = omega (arith, here);
+    left = passed.left ∙ unfolded ∙ rw taken refl;
+  }
+
+-- all are taken where none is left
+pub all_passed : (digest_realm : List ℕ) (realms : List RealmConfig) (at : ℕ) → length realms ≤ at → Passed digest_realm realms at
+    → None ≡ realms_fault digest_realm [] realms
+unfolding realms_fault
+all_passed digest_realm realms at none passed =
+    let past : drop at realms ≡ [] = drop_all at realms none in
+    sym (passed.left ∙ rw past refl)
+
+-- nothing stands against what holds where nothing is said
+pub plain_sound : IsSound (codes "ManagementRealm") (main_realm ∷ [])
+unfolding realms_fault
+plain_sound = refl
+
+-- ---- what holds of realms all of which are taken
+
+-- where no fault is told, there is none here and none later
+pub at_none : (count : ℕ) (fault : Option RealmFault) (later : Option ConfigFault) → at_realm count fault later ≡ None
+    → (fault ≡ None) × (later ≡ None)
+at_none count None later h = (refl, h)
+at_none count (Some fault) later h = absurd (some_is_none h)
+  where
+    some_is_none : ◌≡◌ {A = Option ConfigFault} (Some (Realm count fault)) None → ⊥
+    some_is_none h = cc
+
+-- a realm that is taken has a name of its own, and can be read
+pub taken_parts : (digest_realm : List ℕ) (before : List RealmConfig) (realm : RealmConfig) → realm_fault digest_realm before realm ≡ None
+    → (is_named before realm.name ≡ false) × (kind_fault digest_realm realm.kind ≡ None)
+taken_parts digest_realm before realm = by (is_named before realm.name)
+  where
+    some_is_none : ◌≡◌ {A = Option RealmFault} (Some faults.Twice) None → ⊥
+    some_is_none h = cc
+
+    by : (b : Bool) → cond b (Some faults.Twice) (kind_fault digest_realm realm.kind) ≡ None → (b ≡ false) × (kind_fault digest_realm realm.kind ≡ None)
+    by true h = absurd (some_is_none h)
+    by false h = (refl, h)
+
+-- each realm is taken behind those in front of it
+pub taken_at : (digest_realm : List ℕ) (before done : List RealmConfig) (realm : RealmConfig) (rest : List RealmConfig)
+    → realms_fault digest_realm before (done ++ realm ∷ rest) ≡ None → realm_fault digest_realm (before ++ done) realm ≡ None
+unfolding realms_fault
+taken_at digest_realm before [] realm rest h = rw (append-nil before) (at_none _ _ _ h).0
+taken_at digest_realm before (x ∷ done) realm rest h =
+    subst (λ front. realm_fault digest_realm front realm ≡ None) (append_assoc before (x ∷ []) done)
+    (taken_at digest_realm (before ++ x ∷ []) done realm rest (at_none _ _ _ h).1)
+
+-- no realm has the name of one in front of it
+pub apart_from : (digest_realm : List ℕ) (front : List RealmConfig) (realm : RealmConfig) (back rest : List RealmConfig)
+    → realms_fault digest_realm (front ++ realm ∷ back) rest ≡ None
+    → list_any (λ other. bytes_eq realm.name other.name) rest ≡ false
+unfolding realms_fault
+apart_from digest_realm front realm back [] h = refl
+apart_from digest_realm front realm back (y ∷ ys) h =
+    let here = (taken_parts digest_realm (front ++ realm ∷ back) y (at_none _ _ _ h).0).0 in
+    let among : (list_any (λ other. bytes_eq other.name y.name) front || (bytes_eq realm.name y.name || list_any (λ other. bytes_eq other.name y.name) back)) ≡ false =
+    sym (list_any-append (λ other. bytes_eq other.name y.name) front (realm ∷ back)) ∙ here in
+    let other : bytes_eq realm.name y.name ≡ false = (or_parts _ _ (or_parts _ _ among).1).0 in
+    let left : realms_fault digest_realm ((front ++ realm ∷ back) ++ y ∷ []) ys ≡ None = (at_none _ _ _ h).1 in
+    let later = apart_from digest_realm front realm (back ++ y ∷ []) ys (subst (λ all. realms_fault digest_realm all ys ≡ None) (append_assoc front (realm ∷ back) (y ∷ [])) left) in
+    rw (other, later) refl
+
+-- of a sound configuration the realm of Digest is one, there is a realm, and no fault is told of one
+pub sound_parts : (digest_realm : List ℕ) (realms : List RealmConfig) → IsSound digest_realm realms
+    → (is_realm digest_realm ≡ true) × (are_few realms ≡ true) × (realms_fault digest_realm [] realms ≡ None)
+sound_parts digest_realm realms = by (is_realm digest_realm) (are_few realms)
+  where
+    some_is_none : {fault : ConfigFault} → ◌≡◌ {A = Option ConfigFault} (Some fault) None → ⊥
+    some_is_none h = cc
+
+    by : (a b : Bool) → cond a (cond b (realms_fault digest_realm [] realms) (Some Realms)) (Some DigestRealm) ≡ None
+        → (a ≡ true) × (b ≡ true) × (realms_fault digest_realm [] realms ≡ None)
+    by false b h = absurd (some_is_none h)
+    by true false h = absurd (some_is_none h)
+    by true true h = (refl, refl, h)

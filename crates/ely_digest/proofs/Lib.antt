@@ -1,0 +1,5 @@
+pub mod NonceLemmas
+pub mod KeptLemmas
+pub mod SpendLemmas
+pub mod UseLemmas
+pub mod CountLemmas

@@ -1,0 +1,210 @@
+//! Scripts under configurations that the first line can't give yet: each line's steps, as they are printed.
+
+ghost use Rattle.std.specs.Prelude.{◌≡◌, ◌<◌};
+
+use crate::first_line::Setup;
+use crate::run_line;
+use ely_base::{Bytes, Name, NoMemory, Refused};
+use ely_config::{Config, RealmConfig, RealmKind};
+use ely_domain::Domain;
+use ely_hash::Steps;
+use ely_row::Params;
+use ely_script::{Command, LineError, push_step, read_line};
+use std::alloc::Global;
+use std::marker::Brand;
+use std::sync::ledger::{Blank, Ledger};
+use std::test::Fail;
+
+/// The line that the bytes are.
+fn line_of(alloc: Global, text: &[u8]) -> Result<Result<Command, LineError>, NoMemory> {
+    match read_line(alloc, text) {
+        Ok(command) => Ok(Ok(command)),
+        Err(Refused::Fault(fault)) => Ok(Err(fault)),
+        Err(Refused::NoMemory) => Err(NoMemory),
+    }
+}
+
+/// Puts what the line prints behind what is there, and gives the number of the next step.
+fn push_line<L: Ledger>(
+    alloc: Global,
+    domain: &mut Domain,
+    text: &[u8],
+    line: u64,
+    number: u64,
+    out: &mut Vec<u8>,
+    steps: &mut Steps<L>,
+) -> Result<u64, NoMemory> {
+    if domain.opened() == u64::MAX {
+        return Err(NoMemory);
+    }
+    let mut next = number;
+    for entry in &run_line(alloc, domain, &line_of(alloc, text)?, steps)? {
+        push_step(out, next, line, entry)?;
+        next = next.saturating_add(1);
+    }
+    Ok(next)
+}
+
+/// What the lines print under the configuration.
+fn counted<L: Ledger>(
+    blank: Blank,
+    alloc: Global,
+    config: Config,
+    script: &[u8],
+) -> Result<Vec<u8>, NoMemory>
+    requires name { blank.name ≡ L.name }
+    requires parts { blank.parts ≡ L.parts }
+    requires some { 0 < blank.parts }
+{
+    let mut steps = Steps::<L>::of(blank);
+    let setup = Setup::of(config);
+    let mut domain = Domain::new(alloc, setup.config, setup.journal_limit)?;
+    let mut out = Vec::new(alloc);
+    let mut number = 1;
+    let mut line: u64 = 0;
+    for text in script.split(|b| *b == b'\n') {
+        line = line.saturating_add(1);
+        number = push_line(alloc, &mut domain, text, line, number, &mut out, &mut steps)?;
+    }
+    Ok(out)
+}
+
+/// A configuration with this realm of Digest and one realm, which is `main` or one of users and groups.
+fn config(
+    alloc: Global,
+    digest_realm: &[u8],
+    texts: Option<(&[u8], &[u8])>,
+) -> Result<Config, NoMemory> {
+    let (name, kind): (&[u8], RealmKind) = match texts {
+        None => (b"main", RealmKind::Modifiable),
+        Some((users, groups)) => (
+            b"file",
+            RealmKind::Properties {
+                plain: false,
+                users: Bytes::copy_of(alloc, users)?,
+                groups: Bytes::copy_of(alloc, groups)?,
+            },
+        ),
+    };
+    let Ok(name) = Name::read(alloc, name) else {
+        return Err(NoMemory);
+    };
+    let mut realms = Vec::new(alloc);
+    realms.push(RealmConfig { name, kind })?;
+    match Config::of(
+        alloc,
+        Bytes::copy_of(alloc, digest_realm)?,
+        Params::plain(alloc),
+        realms,
+    ) {
+        Ok(config) => Ok(config),
+        Err(_) => Err(NoMemory),
+    }
+}
+
+/// What the script prints under the configuration.
+fn printed(
+    alloc: Global,
+    digest_realm: &[u8],
+    texts: Option<(&[u8], &[u8])>,
+    script: &[u8],
+) -> Result<Vec<u8>, NoMemory> {
+    counted::<Brand>(
+        Blank::new(1),
+        alloc,
+        config(alloc, digest_realm, texts)?,
+        script,
+    )
+}
+
+/// Logins by Digest under RFC 7616's realm: its own headers (section 3.9.1), a count that was used, a nonce that was never
+/// issued, and one that is issued again.
+const HEADERS: [(&[u8], &[u8]); 2] = [
+    (
+        b"0 add main Mufasa
+0 set-cred main Mufasa 1 clear Circle%20of%20Life
+0 open 1 DIGEST 7ypf/xlj9XXwfDPEoM4URrv/xwf94BcCAzFZH4GiTo0v
+0 digest 1 GET /dir/index.html Digest username=\"Mufasa\", realm=\"http-auth@example.org\", uri=\"/dir/index.html\", algorithm=MD5, nonce=\"7ypf/xlj9XXwfDPEoM4URrv/xwf94BcCAzFZH4GiTo0v\", nc=00000001, cnonce=\"f2/wE4q74E6zIJEtWaHKaf5wv/H5QzzpXusqGemxURZJ\", qop=auth, response=\"8ca523f5e9506fed4657c9700eebdbec\"
+0 open 2 DIGEST abc
+0 digest 2 GET /dir/index.html Digest username=\"Mufasa\", realm=\"http-auth@example.org\", uri=\"/dir/index.html\", algorithm=MD5, nonce=\"7ypf/xlj9XXwfDPEoM4URrv/xwf94BcCAzFZH4GiTo0v\", nc=00000001, cnonce=\"f2/wE4q74E6zIJEtWaHKaf5wv/H5QzzpXusqGemxURZJ\", qop=auth, response=\"8ca523f5e9506fed4657c9700eebdbec\"
+0 digest 2 GET /dir/index.html Digest username=\"Mufasa\", realm=\"http-auth@example.org\", uri=\"/dir/index.html\", algorithm=MD5, nonce=\"xyz\", nc=00000001, cnonce=\"f2/wE4q74E6zIJEtWaHKaf5wv/H5QzzpXusqGemxURZJ\", qop=auth, response=\"8ca523f5e9506fed4657c9700eebdbec\"
+0 open 3 DIGEST abc",
+        b"1 0 1 add ok 1
+2 0 2 set-cred ok 2
+3 0 3 open ok 1 Digest realm=\"http-auth@example.org\", qop=\"auth\", algorithm=MD5, nonce=\"7ypf/xlj9XXwfDPEoM4URrv/xwf94BcCAzFZH4GiTo0v\"
+4 0 4 name1 pinned 2 -
+5 0 4 name2 named -
+6 0 4 check1 ok
+7 0 4 check2 proved
+8 0 5 open ok 2 Digest realm=\"http-auth@example.org\", qop=\"auth\", algorithm=MD5, nonce=\"abc\"
+9 0 6 name1 pinned 2 -
+10 0 6 name2 named -
+11 0 6 check1 replayed 1
+12 0 7 name1 state named
+13 0 8 open nonce-used
+",
+    ),
+    (
+        b"0 add main Mufasa
+0 set-cred main Mufasa 1 clear Circle%20of%20Life
+0 open 1 DIGEST-SHA-256 7ypf/xlj9XXwfDPEoM4URrv/xwf94BcCAzFZH4GiTo0v
+0 digest 1 GET /dir/index.html Digest username=\"Mufasa\", realm=\"http-auth@example.org\", uri=\"/dir/index.html\", algorithm=SHA-256, nonce=\"7ypf/xlj9XXwfDPEoM4URrv/xwf94BcCAzFZH4GiTo0v\", nc=00000001, cnonce=\"f2/wE4q74E6zIJEtWaHKaf5wv/H5QzzpXusqGemxURZJ\", qop=auth, response=\"753927fa0e85d155564e2e272a28d1802ca10daf4496794697cf8db5856cb6c1\"
+0 open 2 DIGEST-SHA-256 abc
+0 digest 2 GET /dir/index.html Digest username=\"Mufasa\", realm=\"http-auth@example.org\", uri=\"/dir/index.html\", algorithm=SHA-256, nonce=\"xyz\", nc=00000001, cnonce=\"f2/wE4q74E6zIJEtWaHKaf5wv/H5QzzpXusqGemxURZJ\", qop=auth, response=\"753927fa0e85d155564e2e272a28d1802ca10daf4496794697cf8db5856cb6c1\"",
+        b"1 0 1 add ok 1
+2 0 2 set-cred ok 2
+3 0 3 open ok 1 Digest realm=\"http-auth@example.org\", qop=\"auth\", algorithm=SHA-256, nonce=\"7ypf/xlj9XXwfDPEoM4URrv/xwf94BcCAzFZH4GiTo0v\"
+4 0 4 name1 pinned 2 -
+5 0 4 name2 named -
+6 0 4 check1 ok
+7 0 4 check2 proved
+8 0 5 open ok 2 Digest realm=\"http-auth@example.org\", qop=\"auth\", algorithm=SHA-256, nonce=\"abc\"
+9 0 6 name1 pinned 2 -
+10 0 6 name2 named -
+11 0 6 check1 stale
+",
+    ),
+];
+
+#[test]
+fn the_published_headers_log_in_once(rt: HostRuntime) -> Result<(), Fail> {
+    for (script, text) in HEADERS {
+        let said = printed(rt.alloc(), b"http-auth@example.org", None, script)?;
+        assert!(rt; said.as_slice() == text);
+    }
+    Ok(())
+}
+
+const USERS: &[u8] = b"#$REALM_NAME=testrealm@host.com$\nMufasa=939e7578ed9e3c518a452acee763bce9\n";
+
+const RELOADED: &[u8] = b"0 open 1 PLAIN
+0 plain 1 AE11ZmFzYQBDaXJjbGUgT2YgTGlmZQ==
+0 authorize 1
+0 succeed 1
+0 add file x
+0 reload file eA== -
+0 reload file - -
+0 open 2 PLAIN
+0 plain 2 AE11ZmFzYQBDaXJjbGUgT2YgTGlmZQ==";
+
+const RELOADS: &[u8] = b"1 0 1 open ok 1
+2 0 2 name1 pinned 1 -
+3 0 2 name2 named -
+4 0 2 check1 ok
+5 0 2 check2 proved
+6 0 3 authorize authorized
+7 0 4 succeed established 1 file Mufasa roles=admin,ops
+8 0 5 add read-only
+9 0 6 reload users bad-line 1
+10 0 7 reload ok 2
+11 0 8 open ok 2
+12 0 9 name1 unknown
+";
+
+#[test]
+fn a_realm_of_texts_logs_in_until_it_is_reloaded(rt: HostRuntime) -> Result<(), Fail> {
+    let texts: (&[u8], &[u8]) = (USERS, b"Mufasa=admin, ops\n");
+    let said = printed(rt.alloc(), b"ManagementRealm", Some(texts), RELOADED)?;
+    assert!(rt; said.as_slice() == RELOADS);
+    Ok(())
+}
