@@ -1,15 +1,18 @@
-//! Scripts under configurations that the first line can't give yet: each line's steps, as they are printed.
+//! What no script of the program shows yet: scripts under other configurations, and steps that come apart from their line.
 
 ghost use Rattle.std.specs.Prelude.{◌≡◌, ◌<◌};
 
 use crate::first_line::Setup;
 use crate::run_line;
-use ely_base::{Bytes, Name, NoMemory, Refused};
+use ely_base::{Bytes, CtxId, Name, NoMemory, Refused, Serial};
 use ely_config::{Config, RealmConfig, RealmKind};
-use ely_domain::Domain;
+use ely_domain::{Domain, Event};
 use ely_hash::Steps;
+use ely_job::discard;
 use ely_row::Params;
-use ely_script::{Command, LineError, push_step, read_line};
+use ely_script::{
+    Claim, Command, Entry, Evidence, LineError, Outcome, StateWord, push_step, read_line,
+};
 use std::alloc::Global;
 use std::marker::Brand;
 use std::sync::ledger::{Blank, Ledger};
@@ -24,7 +27,18 @@ fn line_of(alloc: Global, text: &[u8]) -> Result<Result<Command, LineError>, NoM
     }
 }
 
-/// Puts what the line prints behind what is there, and gives the number of the next step.
+/// Puts what the entries print behind what is there, and gives the number of the next step.
+fn push_all(out: &mut Vec<u8>, number: u64, line: u64, entries: &[Entry]) -> Result<u64, NoMemory> {
+    let mut next = number;
+    for entry in entries {
+        push_step(out, next, line, entry)?;
+        next = next.saturating_add(1);
+    }
+    Ok(next)
+}
+
+/// Puts what the line prints behind what is there, and gives the number of the next step. What owns much is let go by
+/// `discard`.
 fn push_line<L: Ledger>(
     alloc: Global,
     domain: &mut Domain,
@@ -37,12 +51,30 @@ fn push_line<L: Ledger>(
     if domain.opened() == u64::MAX {
         return Err(NoMemory);
     }
-    let mut next = number;
-    for entry in &run_line(alloc, domain, &line_of(alloc, text)?, steps)? {
-        push_step(out, next, line, entry)?;
-        next = next.saturating_add(1);
+    let read = line_of(alloc, text)?;
+    let made = run_line(alloc, domain, &read, steps);
+    discard(read);
+    let entries = made?;
+    let pushed = push_all(out, number, line, entries.as_slice());
+    discard(entries);
+    pushed
+}
+
+/// Puts what the lines print behind what is there.
+fn push_script<L: Ledger>(
+    alloc: Global,
+    domain: &mut Domain,
+    script: &[u8],
+    out: &mut Vec<u8>,
+    steps: &mut Steps<L>,
+) -> Result<(), NoMemory> {
+    let mut number = 1;
+    let mut line: u64 = 0;
+    for text in script.split(|b| *b == b'\n') {
+        line = line.saturating_add(1);
+        number = push_line(alloc, domain, text, line, number, out, steps)?;
     }
-    Ok(next)
+    Ok(())
 }
 
 /// What the lines print under the configuration.
@@ -60,13 +92,30 @@ fn counted<L: Ledger>(
     let setup = Setup::of(config);
     let mut domain = Domain::new(alloc, setup.config, setup.journal_limit)?;
     let mut out = Vec::new(alloc);
-    let mut number = 1;
-    let mut line: u64 = 0;
-    for text in script.split(|b| *b == b'\n') {
-        line = line.saturating_add(1);
-        number = push_line(alloc, &mut domain, text, line, number, &mut out, &mut steps)?;
-    }
+    let pushed = push_script(alloc, &mut domain, script, &mut out, &mut steps);
+    discard(domain);
+    pushed?;
     Ok(out)
+}
+
+/// A realm `main`, or one `file` of users and groups.
+fn realm(alloc: Global, texts: Option<(&[u8], &[u8])>) -> Result<RealmConfig, NoMemory> {
+    let Some((users, groups)) = texts else {
+        return Ok(RealmConfig {
+            name: Name::of(Vec::from_slice(alloc, b"main")?),
+            kind: RealmKind::Modifiable,
+        });
+    };
+    let name = Name::of(Vec::from_slice(alloc, b"file")?);
+    let users = Bytes::copy_of(alloc, users)?;
+    let groups = Bytes::copy_of(alloc, groups)?;
+    let plain = false;
+    let kind = RealmKind::Properties {
+        plain,
+        users,
+        groups,
+    };
+    Ok(RealmConfig { name, kind })
 }
 
 /// A configuration with this realm of Digest and one realm, which is `main` or one of users and groups.
@@ -75,28 +124,10 @@ fn config(
     digest_realm: &[u8],
     texts: Option<(&[u8], &[u8])>,
 ) -> Result<Config, NoMemory> {
-    let (name, kind): (&[u8], RealmKind) = match texts {
-        None => (b"main", RealmKind::Modifiable),
-        Some((users, groups)) => (
-            b"file",
-            RealmKind::Properties {
-                plain: false,
-                users: Bytes::copy_of(alloc, users)?,
-                groups: Bytes::copy_of(alloc, groups)?,
-            },
-        ),
-    };
-    let Ok(name) = Name::read(alloc, name) else {
-        return Err(NoMemory);
-    };
+    let announced = Bytes::copy_of(alloc, digest_realm)?;
     let mut realms = Vec::new(alloc);
-    realms.push(RealmConfig { name, kind })?;
-    match Config::of(
-        alloc,
-        Bytes::copy_of(alloc, digest_realm)?,
-        Params::plain(alloc),
-        realms,
-    ) {
+    realms.push(realm(alloc, texts)?)?;
+    match Config::of(alloc, announced, Params::plain(alloc), realms) {
         Ok(config) => Ok(config),
         Err(_) => Err(NoMemory),
     }
@@ -206,5 +237,124 @@ fn a_realm_of_texts_logs_in_until_it_is_reloaded(rt: HostRuntime) -> Result<(), 
     let texts: (&[u8], &[u8]) = (USERS, b"Mufasa=admin, ops\n");
     let said = printed(rt.alloc(), b"ManagementRealm", Some(texts), RELOADED)?;
     assert!(rt; said.as_slice() == RELOADS);
+    Ok(())
+}
+
+/// What a step is answered: whether it is gone, and the serial that it gives.
+#[derive(Clone, Copy, PartialEq, Eq)]
+struct Told {
+    gone: bool,
+    serial: Option<Serial>,
+}
+
+/// What the step is answered.
+fn take<L: Ledger>(
+    alloc: Global,
+    domain: &mut Domain,
+    event: Event,
+    steps: &mut Steps<L>,
+) -> Result<Told, NoMemory> {
+    if domain.opened() == u64::MAX {
+        discard(event);
+        return Err(NoMemory);
+    }
+    let answer = domain.step(alloc, event, steps)?;
+    let gone = matches!(answer.outcome, Outcome::Gone);
+    let serial = answer.serial;
+    discard(answer);
+    Ok(Told { gone, serial })
+}
+
+/// The first half of a naming of the user `user`.
+fn naming(alloc: Global) -> Result<Event, NoMemory> {
+    match Name::read(alloc, b"user") {
+        Err(_) => Err(NoMemory),
+        Ok(name) => Ok(Event::Name1 {
+            ctx: CtxId(1),
+            claim: Claim::Plain {
+                authzid: None,
+                name,
+            },
+        }),
+    }
+}
+
+/// The first half of a check, of the first open.
+fn showing(alloc: Global) -> Result<Event, NoMemory> {
+    Ok(Event::Check1 {
+        ctx: CtxId(1),
+        serial: Some(Serial(1)),
+        evidence: Evidence::Plain {
+            password: Bytes::copy_of(alloc, b"pencil")?,
+        },
+    })
+}
+
+/// Makes the lines of the script.
+fn go_on<L: Ledger>(
+    alloc: Global,
+    domain: &mut Domain,
+    script: &[u8],
+    steps: &mut Steps<L>,
+) -> Result<(), NoMemory> {
+    let mut out = Vec::new(alloc);
+    push_script(alloc, domain, script, &mut out, steps)
+}
+
+/// What a check of the first open is answered, before the login is closed and opened again, or behind that.
+fn last_told<L: Ledger>(
+    alloc: Global,
+    domain: &mut Domain,
+    reopened: bool,
+    steps: &mut Steps<L>,
+) -> Result<Told, NoMemory> {
+    let first = b"0 add main user\n0 set-cred main user 1 clear pencil\n0 open 1 PLAIN";
+    go_on(alloc, domain, first, steps)?;
+    let (ctx, serial) = (CtxId(1), Serial(1));
+    take(alloc, domain, naming(alloc)?, steps)?;
+    let done = None;
+    take(alloc, domain, Event::Name2 { ctx, serial, done }, steps)?;
+    take(alloc, domain, showing(alloc)?, steps)?;
+    if reopened {
+        go_on(alloc, domain, b"0 fail 1\n0 close 1\n0 open 1 PLAIN", steps)?;
+    }
+    let done = None;
+    take(alloc, domain, Event::Check2 { ctx, serial, done }, steps)
+}
+
+/// The same, with the state of the login then.
+fn checked<L: Ledger>(
+    blank: Blank,
+    alloc: Global,
+    reopened: bool,
+) -> Result<(Told, StateWord), NoMemory>
+    requires name { blank.name ≡ L.name }
+    requires parts { blank.parts ≡ L.parts }
+    requires some { 0 < blank.parts }
+{
+    let mut steps = Steps::<L>::of(blank);
+    let setup = Setup::of(Config::plain(alloc)?);
+    let mut domain = Domain::new(alloc, setup.config, setup.journal_limit)?;
+    let last = last_told(alloc, &mut domain, reopened, &mut steps);
+    let state = domain.state(CtxId(1));
+    discard(domain);
+    Ok((last?, state))
+}
+
+/// The same with a counter of its own.
+fn check_of(alloc: Global, reopened: bool) -> Result<(Told, StateWord), NoMemory> {
+    checked::<Brand>(Blank::new(1), alloc, reopened)
+}
+
+#[test]
+fn a_check_of_an_earlier_open_is_gone(rt: HostRuntime) -> Result<(), Fail> {
+    let rows = [
+        (false, false, StateWord::Proved),
+        (true, true, StateWord::Fresh),
+    ];
+    for (reopened, gone, state) in rows {
+        let (told, left) = check_of(rt.alloc(), reopened)?;
+        assert!(rt; told.gone == gone && told.serial.is_none() && left == state);
+    }
     Ok(())
 }
