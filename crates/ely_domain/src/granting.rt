@@ -5,7 +5,7 @@ ghost use Rattle.ely_row.specs.declared.mech.Mech.{Mech};
 ghost use Rattle.ely_context.specs.Logins.{login_of};
 ghost use Rattle.ely_domain.specs.Contexts.{Asks, HoldsIts, IsPin, IsReply, IsSoundAt, pinned, prepared_for, read_of, seen_login};
 ghost use Rattle.ely_domain.specs.Identities.{roles, roles_in};
-ghost use Rattle.ely_domain.specs.Steps.{authorize, allows, succeed, fail};
+ghost use Rattle.ely_domain.specs.Steps.{authorize, allows, yes_or_no, succeed, fail};
 
 use crate::handouts::Handouts;
 use crate::prepared::Prepared;
@@ -121,6 +121,13 @@ pub(crate) fn authorize(
     }
 }
 
+/// What is told of a permission.
+fn yes_or_no(granted: bool) -> Outcome
+    ensures { result ≡ yes_or_no granted }
+{
+    if granted { Outcome::Yes } else { Outcome::No }
+}
+
 /// Answers whether a complete login has the permission, as of the pinned version.
 pub(crate) fn allows(
     alloc: Global,
@@ -139,16 +146,12 @@ pub(crate) fn allows(
         return Ok(Outcome::State(context.state()));
     };
     let roles = roles_at(alloc, config, tables, pin)?;
-    if granted(
+    Ok(yes_or_no(granted(
         config.permissions(),
         &pin.place.name,
         &roles,
         wanted.bytes(),
-    ) {
-        Ok(Outcome::Yes)
-    } else {
-        Ok(Outcome::No)
-    }
+    )))
 }
 
 /// Completes an authorized login, and hands out its identity. It takes no memory.

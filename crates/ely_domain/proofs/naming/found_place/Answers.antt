@@ -6,9 +6,10 @@ use Rattle.ely_domain.proofs.naming.found_place.Goals as goal
 pub returns-in-Err-Fault : goal.returns-in-Err-Fault
 returns-in-Err-Fault c =
     let known = read_of c.args.config.now c.args.tables.now in
-    naming_lost known c.args.mech c.args.claim.now c.in-Err-Fault.field-0 c.in-Err-Fault.fault
+    let lost = naming_lost known c.args.mech c.args.claim.now c.in-Err-Fault.field-0 c.in-Err-Fault.fault
     (sym c.is_claim_of.ensures ∙ c.if-not-is_claim_of.false) (sym c.is_other.ensures ∙ c.if-is_other.false) c.in-Err-Fault.field-0-is
-    (rw (c.pipeline.ensures, c.claimed_name.ensures) at c.in-Err-Fault.ensures)
+    (rw (c.pipeline.ensures, c.claimed_name.ensures) at c.in-Err-Fault.ensures) in
+    rw c.in-Err-Fault.field-0-is lost
 
 pub returns-in-Ok-2 : goal.returns-in-Ok-2
 returns-in-Ok-2 c =
