@@ -4,6 +4,7 @@
 
 mod bytes;
 mod compared;
+mod copies;
 mod ids;
 mod items;
 mod name;
@@ -15,6 +16,7 @@ mod texts;
 mod word;
 
 pub use bytes::Bytes;
+pub use copies::{copy_names, copy_pairs};
 pub use ids::{CtxId, Serial, Version};
 pub use items::Items;
 pub use name::{Name, NameFault, has_barred, name_fault};

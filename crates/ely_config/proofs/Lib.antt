@@ -1,1 +1,3 @@
 pub mod RealmLemmas
+pub mod RealmNames
+pub mod Targets

@@ -1,6 +1,7 @@
 -- Realms that are taken one after another, and what holds of realms all of which are taken.
 use Rattle.std.proofs.Common.{◌≡◌, ℕ, ◌+◌, ◌<◌, ◌≤◌, Bool, true, false, cond, List, [], ◌∷◌, ◌++◌, length, take, drop, Option, Some, None, get_or, refl, sym, ap, subst, ◌∙◌, ◌||◌, append_assoc, append-nil, IsTrue, bytes_eq, codes, arith}
-use Rattle.std.specs.Prelude.{slice_get}
+use Rattle.std.specs.Prelude.{slice_get, not}
+use Rattle.std.specs.Option.{option_or}
 use Rattle.std.specs.List.{list_any}
 use Rattle.std.proofs.lemmas.List.{length-take-le, take_more, drop_more, drop_all}
 use Rattle.std.proofs.lemmas.List.Folds.{list_any-append}
@@ -8,10 +9,11 @@ use Rattle.std.proofs.lemmas.Bool.{or_parts}
 use Rattle.ely_row.specs.Salts.{is_realm}
 use Rattle.ely_config.specs.declared.realm.RealmConfig.{RealmConfig}
 use Rattle.ely_config.specs.declared.fault.RealmFault.{RealmFault}
-use Rattle.ely_config.specs.declared.fault.RealmFault.TheVariants as faults
+use Rattle.ely_config.specs.declared.fault.RealmFault.TheVariants as realm_faults
 use Rattle.ely_config.specs.declared.fault.ConfigFault.{ConfigFault}
-use Rattle.ely_config.specs.declared.fault.ConfigFault.TheVariants.{DigestRealm, Realms, Realm}
-use Rattle.ely_config.specs.Configs.{kind_fault, is_named, realm_fault, at_realm, realms_fault, are_few, config_fault, main_realm, IsSound}
+use Rattle.ely_config.specs.declared.fault.ConfigFault.TheVariants as faults
+use Rattle.ely_config.specs.declared.members.Members.{Members}
+use Rattle.ely_config.specs.Configs.{Config, unless, are_few, bounds_fault, kind_fault, is_named, mapper_fits, realm_fault, at_realm, realms_fault, target_fault, config_fault, IsSound, AreSound, plain_config}
 
 -- the realms in front of this index are taken
 pub record Passed (digest_realm : List ℕ) (realms : List RealmConfig) (at : ℕ) : Type 0 where
@@ -40,7 +42,7 @@ module _ (digest_realm : List ℕ) (realms : List RealmConfig) (at : ℕ) (realm
 
   -- the realm at the index is the first that isn't taken
   pub refused : (fault : RealmFault) → Passed digest_realm realms at → realm_fault digest_realm (take at realms) realm ≡ Some fault
-      → Some (Realm at fault) ≡ realms_fault digest_realm [] realms
+      → Some (faults.Realm at fault) ≡ realms_fault digest_realm [] realms
   refused fault passed taken = sym (passed.left ∙ unfolded ∙ rw taken refl)
 
   -- it is taken
@@ -59,9 +61,27 @@ all_passed digest_realm realms at none passed =
     sym (passed.left ∙ rw past refl)
 
 -- nothing stands against what holds where nothing is said
-pub plain_sound : IsSound (codes "ManagementRealm") (main_realm ∷ [])
-unfolding realms_fault
+pub plain_sound : IsSound plain_config
+unfolding config_fault realms_fault
 plain_sound = refl
+
+-- ---- faults that are looked for in turn
+
+-- where no fault is found, neither the first part has one nor the others
+pub none_parts : {F : Type 0} (first others : Option F) → option_or first others ≡ None → (first ≡ None) × (others ≡ None)
+none_parts None others h = (refl, h)
+none_parts (Some fault) others h = absurd (some_is_none fault h)
+  where
+    some_is_none : {F : Type 0} (fault : F) → ◌≡◌ {A = Option F} (Some fault) None → ⊥
+    some_is_none fault h = cc
+
+-- and each test is passed
+pub passed : {F : Type 0} (test : Bool) (fault : F) → unless test fault ≡ None → test ≡ true
+passed true fault h = refl
+passed false fault h = absurd (some_is_none fault h)
+  where
+    some_is_none : {F : Type 0} (fault : F) → ◌≡◌ {A = Option F} (Some fault) None → ⊥
+    some_is_none fault h = cc
 
 -- ---- what holds of realms all of which are taken
 
@@ -71,20 +91,20 @@ pub at_none : (count : ℕ) (fault : Option RealmFault) (later : Option ConfigFa
 at_none count None later h = (refl, h)
 at_none count (Some fault) later h = absurd (some_is_none h)
   where
-    some_is_none : ◌≡◌ {A = Option ConfigFault} (Some (Realm count fault)) None → ⊥
+    some_is_none : ◌≡◌ {A = Option ConfigFault} (Some (faults.Realm count fault)) None → ⊥
     some_is_none h = cc
 
 -- a realm that is taken has a name of its own, and can be read
 pub taken_parts : (digest_realm : List ℕ) (before : List RealmConfig) (realm : RealmConfig) → realm_fault digest_realm before realm ≡ None
     → (is_named before realm.name ≡ false) × (kind_fault digest_realm realm.kind ≡ None)
-taken_parts digest_realm before realm = by (is_named before realm.name)
+taken_parts digest_realm before realm h =
+    let parts = none_parts _ _ h in
+    let own : not (is_named before realm.name) ≡ true = passed (not (is_named before realm.name)) realm_faults.Twice parts.0 in
+    (by (is_named before realm.name) own, (none_parts _ _ parts.1).1)
   where
-    some_is_none : ◌≡◌ {A = Option RealmFault} (Some faults.Twice) None → ⊥
-    some_is_none h = cc
-
-    by : (b : Bool) → cond b (Some faults.Twice) (kind_fault digest_realm realm.kind) ≡ None → (b ≡ false) × (kind_fault digest_realm realm.kind ≡ None)
-    by true h = absurd (some_is_none h)
-    by false h = (refl, h)
+    by : (named : Bool) → not named ≡ true → named ≡ false
+    by true h = sym h
+    by false h = refl
 
 -- each realm is taken behind those in front of it
 pub taken_at : (digest_realm : List ℕ) (before done : List RealmConfig) (realm : RealmConfig) (rest : List RealmConfig)
@@ -110,16 +130,14 @@ apart_from digest_realm front realm back (y ∷ ys) h =
     let later = apart_from digest_realm front realm (back ++ y ∷ []) ys (subst (λ all. realms_fault digest_realm all ys ≡ None) (append_assoc front (realm ∷ back) (y ∷ [])) left) in
     rw (other, later) refl
 
--- of a sound configuration the realm of Digest is one, there is a realm, and no fault is told of one
-pub sound_parts : (digest_realm : List ℕ) (realms : List RealmConfig) → IsSound digest_realm realms
-    → (is_realm digest_realm ≡ true) × (are_few realms ≡ true) × (realms_fault digest_realm [] realms ≡ None)
-sound_parts digest_realm realms = by (is_realm digest_realm) (are_few realms)
-  where
-    some_is_none : {fault : ConfigFault} → ◌≡◌ {A = Option ConfigFault} (Some fault) None → ⊥
-    some_is_none h = cc
-
-    by : (a b : Bool) → cond a (cond b (realms_fault digest_realm [] realms) (Some Realms)) (Some DigestRealm) ≡ None
-        → (a ≡ true) × (b ≡ true) × (realms_fault digest_realm [] realms ≡ None)
-    by false b h = absurd (some_is_none h)
-    by true false h = absurd (some_is_none h)
-    by true true h = (refl, refl, h)
+-- of a sound configuration the realm of Digest can be announced, and the realms are taken
+pub sound_realms : (members : Members) → IsSound members → AreSound members.digest_realm members.realms
+unfolding config_fault
+sound_realms members sound =
+    let parts = none_parts (bounds_fault members) _ sound in
+    let bounds = none_parts (unless (is_realm members.digest_realm) faults.DigestRealm) _ parts.0 in
+    record {
+      announced = passed (is_realm members.digest_realm) faults.DigestRealm bounds.0;
+      few = passed (are_few members.realms) faults.Realms (none_parts _ _ bounds.1).0;
+      none = (none_parts (realms_fault members.digest_realm [] members.realms) _ parts.1).0;
+    }

@@ -1,13 +1,20 @@
-//! The configuration of a domain: the realm that Digest announces, how keys are derived of clear passwords, and the realms with
-//! their texts. What a configuration has to keep stands in its type. It stands on `ely_propfile`, `ely_row` and `ely_base`.
+//! The configuration of a domain: the realm that Digest announces, how keys are derived of clear passwords, the way of names to
+//! their places, the realms with their texts, role mappers and permissions. What a configuration has to keep stands in its type.
+//! It stands on `ely_propfile`, which reads the texts, and on `ely_pipeline`, `ely_roles` and `ely_perm`.
 #![tactic(auto)]
 
+mod bounds;
 mod config;
 mod fault;
+mod laws;
+mod members;
 mod realm;
+mod realm_faults;
 
 pub use config::Config;
 pub use fault::{ConfigFault, RealmFault};
+pub use laws::places_are_in_realms_that_are_there;
+pub use members::Members;
 pub use realm::{RealmConfig, RealmKind};
 
 #[cfg(test)]

@@ -1,8 +1,11 @@
 //! The realms of a configuration.
 
 ghost use Rattle.std.specs.Prelude.{◌≡◌, IfOk};
+ghost use Rattle.std.specs.Option.{option_copied};
+ghost use Rattle.ely_config.specs.Configs.{main_realm};
 
 use ely_base::{Bytes, Name, NoMemory};
+use ely_roles::RoleMapper;
 use std::alloc::Global;
 
 /// Where the identities of a realm come from.
@@ -39,14 +42,43 @@ impl RealmKind {
     }
 }
 
-/// A realm: its name, and where its identities come from.
+/// A realm: its name, where its identities come from, and what their roles are.
 #[derive(Debug, Drop)]
 pub struct RealmConfig {
     pub name: Name,
     pub kind: RealmKind,
+    /// The attribute whose values are the roles of an identity.
+    pub role_attribute: Name,
+    /// What makes other roles of these, before the mapper of the domain.
+    pub role_mapper: Option<RoleMapper>,
+}
+
+/// An equal role mapper, where there is one.
+pub(crate) fn copy_mapper(
+    alloc: Global,
+    mapper: Option<&RoleMapper>,
+) -> Result<Option<RoleMapper>, NoMemory>
+    ensures { IfOk result (λ copy. copy ≡ option_copied mapper.entry) }
+{
+    match mapper {
+        None => Ok(None),
+        Some(mapper) => Ok(Some(mapper.copy(alloc)?)),
+    }
 }
 
 impl RealmConfig {
+    /// The realm `main`: its identities are changed one by one, and their roles are the values of `groups`.
+    pub(crate) fn main(alloc: Global) -> Result<RealmConfig, NoMemory>
+        ensures { IfOk result (λ realm. realm ≡ main_realm) }
+    {
+        Ok(RealmConfig {
+            name: Name::of(Vec::from_slice(alloc, b"main")?),
+            kind: RealmKind::Modifiable,
+            role_attribute: Name::of(Vec::from_slice(alloc, b"groups")?),
+            role_mapper: None,
+        })
+    }
+
     /// An equal realm.
     pub fn copy(&self, alloc: Global) -> Result<RealmConfig, NoMemory>
         ensures { IfOk result (λ copy. copy ≡ self.now) }
@@ -54,6 +86,8 @@ impl RealmConfig {
         Ok(RealmConfig {
             name: self.name.copy(alloc)?,
             kind: self.kind.copy(alloc)?,
+            role_attribute: self.role_attribute.copy(alloc)?,
+            role_mapper: copy_mapper(alloc, self.role_mapper.as_ref())?,
         })
     }
 }

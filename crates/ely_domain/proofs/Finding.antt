@@ -6,8 +6,8 @@ use Rattle.ely_base.specs.declared.refused.Refused.{Refused}
 use Rattle.ely_base.specs.declared.refused.Refused.TheVariants.{Fault}
 use Rattle.ely_base.specs.Refused.{◌>>=◌, Fails}
 use Rattle.ely_row.specs.declared.mech.Mech.{Mech}
-use Rattle.ely_row.specs.declared.place.PipeFault.{PipeFault}
-use Rattle.ely_row.specs.declared.place.Place.{Place}
+use Rattle.ely_pipeline.specs.declared.place.PipeFault.{PipeFault}
+use Rattle.ely_pipeline.specs.declared.place.Place.{Place}
 use Rattle.ely_row.specs.Rows.{Row}
 use Rattle.ely_cred.specs.Keys.{chosen}
 use Rattle.ely_script.specs.declared.claim.Claim.{Claim}
@@ -19,14 +19,14 @@ use Rattle.ely_domain.specs.Given.{Given, place_of}
 use Rattle.ely_domain.specs.Identities.{Known, ident}
 use Rattle.ely_domain.specs.Steps.{claimed_name, is_other, is_claim_of, serving, naming}
 
--- a place is always found
-pub no_fault : {A : Type 0} (given : Given) (name : List ℕ) (refused : Refused PipeFault) (fault : PipeFault) → refused ≡ Fault fault
-    → Fails refused (place_of given name) → A
-unfolding place_of
-no_fault {A = A} given name refused fault is fails = absurd (by _ (rw is at fails))
-  where
-    by : (place : Place) → ◌≡◌ {A = Result Place PipeFault} (Ok place) (Err fault) → ⊥
-    by place h = cc
+-- a name without a place is told the stage that gives nothing
+pub naming_lost : (known : Known) (mech : Mech) (claim : Claim) (refused : Refused PipeFault) (fault : PipeFault)
+    → is_claim_of mech claim ≡ true → is_other claim ≡ false → refused ≡ Fault fault
+    → Fails refused (place_of known.given (claimed_name claim)) → naming known mech claim ≡ Err (outcomes.Pipe fault)
+unfolding naming
+naming_lost known mech claim refused fault form own is fails =
+    let lost : place_of known.given (claimed_name claim) ≡ Err fault = rw is at fails in
+    rw (form, own, lost) refl
 
 -- a row that serves is the identity of now
 serving_is : (known : Known) (mech : Mech) (place : Place) (row : Row) → serving known mech place ≡ Ok row

@@ -4,7 +4,7 @@ use Rattle.std.specs.Option.{option_and_then}
 use Rattle.std.proofs.lemmas.List.{take-append-le, length-append}
 use Rattle.ely_row.specs.declared.edit.Edit.{Edit}
 use Rattle.ely_row.specs.declared.mech.Mech.{Mech}
-use Rattle.ely_row.specs.declared.place.Place.{Place}
+use Rattle.ely_pipeline.specs.declared.place.Place.{Place}
 use Rattle.ely_row.specs.Edits.{row}
 use Rattle.ely_table.specs.Faults.{texts_of}
 use Rattle.ely_cred.specs.Keys.{ready_of}
@@ -14,8 +14,9 @@ use Rattle.ely_context.specs.declared.stage.Stage.TheVariants.{Fresh, Loading, N
 use Rattle.ely_context.specs.Contexts.{ContextStage, ContextLogin}
 use Rattle.ely_domain.specs.declared.prepared.Prepared.{Prepared}
 use Rattle.ely_domain.specs.Contexts.{IsPin, IsKey, HoldsIts, HasHandout, IsSound}
-use Rattle.ely_domain.specs.Identities.{Known, ident, key_at, roles_in, roles}
-use Rattle.ely_domain.specs.Given.{realms, role_attribute}
+use Rattle.ely_domain.specs.Identities.{Known, ident, key_at, roles_in, roles, grants}
+use Rattle.ely_perm.specs.Grants.{granted}
+use Rattle.ely_domain.specs.Given.{realms}
 
 -- what is known after one more edit
 abbrev pub more : Known → Edit → Known
@@ -37,7 +38,14 @@ key_stays known e mech version place past =
 pub roles_stay : (known : Known) (e : Edit) (version : ℕ) (place : Place) → version ≤ length known.edits
     → roles (more known e) version place ≡ roles known version place
 roles_stay known e version place past =
-    ap (roles_in (role_attribute known.given place.realm)) (ident_stays known e version place past)
+    ap (roles_in known.given.config place.realm) (ident_stays known e version place past)
+
+-- and so does each permission
+pub grants_stay : (known : Known) (e : Edit) (version : ℕ) (place : Place) (wanted : List ℕ) → version ≤ length known.edits
+    → grants (more known e) version place wanted ≡ grants known version place wanted
+unfolding grants
+grants_stay known e version place wanted past =
+    ap (λ found. granted known.given.config.permissions place.name found wanted) (roles_stay known e version place past)
 
 -- a pin stays one
 pin_stays : (known : Known) (e : Edit) (mech : Mech) (p : Pin) → IsPin known mech p → IsPin (more known e) mech p

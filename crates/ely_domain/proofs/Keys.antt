@@ -4,7 +4,7 @@ use Rattle.std.specs.Prelude.{IfSome}
 use Rattle.std.specs.Option.{option_map, option_and_then}
 use Rattle.ely_row.specs.declared.cred.Credential.{Credential}
 use Rattle.ely_row.specs.declared.mech.Mech.{Mech}
-use Rattle.ely_row.specs.declared.place.Place.{Place}
+use Rattle.ely_pipeline.specs.declared.place.Place.{Place}
 use Rattle.ely_row.specs.Rows.{Row}
 use Rattle.ely_row.specs.Salts.{Params}
 use Rattle.ely_cred.specs.declared.key.ReadyKey.{ReadyKey}

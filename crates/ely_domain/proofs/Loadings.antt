@@ -21,8 +21,8 @@ use Rattle.ely_config.specs.declared.realm.RealmConfig.{RealmConfig}
 use Rattle.ely_config.specs.declared.realm.RealmKind.{RealmKind}
 use Rattle.ely_config.specs.declared.realm.RealmKind.TheVariants as kinds
 use Rattle.ely_config.specs.declared.fault.RealmFault.{RealmFault}
-use Rattle.ely_config.specs.Configs.{read_fault, kind_fault, is_named, realms_fault, IsSound}
-use Rattle.ely_config.proofs.RealmLemmas.{at_none, taken_parts, taken_at, apart_from, sound_parts}
+use Rattle.ely_config.specs.Configs.{read_fault, kind_fault, is_named, realms_fault, AreSound}
+use Rattle.ely_config.proofs.RealmLemmas.{at_none, taken_parts, taken_at, apart_from}
 use Rattle.ely_domain.specs.Given.{class_by, classed, loading, loadings}
 
 none_is : {A : Type 0} {x : A} → ◌≡◌ {A = Option A} None (Some x) → ⊥
@@ -46,8 +46,8 @@ module _ (digest_realm : List ℕ) where
       let rest = apart_behind (before ++ realm ∷ []) realms later in
       rw (same_names realm.name realms, others, rest) refl
 
-  pub apart : (realms : List RealmConfig) → IsSound digest_realm realms → are_apart (classed digest_realm realms) ≡ true
-  apart realms sound = apart_behind [] realms (sound_parts digest_realm realms sound).2
+  pub apart : (realms : List RealmConfig) → AreSound digest_realm realms → are_apart (classed digest_realm realms) ≡ true
+  apart realms sound = apart_behind [] realms sound.none
 
   -- the fallback of each is the realm of Digest
   class_has : is_realm digest_realm ≡ true → (name : List ℕ) (kind : RealmKind) → has_realm (name, class_by digest_realm kind) ≡ true
@@ -60,8 +60,8 @@ module _ (digest_realm : List ℕ) where
       let rest = have_realms is realms in
       rw (class_has is realm.name realm.kind, rest) refl
 
-  pub fallbacks : (realms : List RealmConfig) → IsSound digest_realm realms → list_all has_realm (classed digest_realm realms) ≡ true
-  fallbacks realms sound = have_realms (sound_parts digest_realm realms sound).0 realms
+  pub fallbacks : (realms : List RealmConfig) → AreSound digest_realm realms → list_all has_realm (classed digest_realm realms) ≡ true
+  fallbacks realms sound = have_realms sound.announced realms
 
   -- a realm with a name of its own has its own class
   class_at : (done : List RealmConfig) (realm : RealmConfig) (rest : List RealmConfig) → is_named done realm.name ≡ false
@@ -118,13 +118,13 @@ module _ (digest_realm : List ℕ) where
   name_is name (kinds.Properties plain users groups) edit is = ap realm_of (sym (same_Some _ _ is))
 
   pub loads : (limit : ℕ) (done : List RealmConfig) (realm : RealmConfig) (rest : List RealmConfig) (edit : Edit)
-      → IsSound digest_realm (done ++ realm ∷ rest) → length (loadings (done ++ realm ∷ rest)) ≤ limit
+      → AreSound digest_realm (done ++ realm ∷ rest) → length (loadings (done ++ realm ∷ rest)) ≤ limit
       → loading realm.name realm.kind ≡ Some edit
       → fault (classed digest_realm (done ++ realm ∷ rest)) limit (loadings done) edit ≡ None
   unfolding fault
   loads limit done realm rest edit sound room is =
       let all = done ++ realm ∷ rest in
-      let taken = taken_parts digest_realm done realm (taken_at digest_realm [] done realm rest (sound_parts digest_realm all sound).2) in
+      let taken = taken_parts digest_realm done realm (taken_at digest_realm [] done realm rest sound.none) in
       let more = loadings_more done realm rest edit is in
       let free : leb limit (length (loadings done)) ≡ false = grind (arith, nat_tests, more, room) in
       rw (free, name_is realm.name realm.kind edit is, class_at done realm rest taken.0)
@@ -140,12 +140,12 @@ module _ (digest_realm : List ℕ) where
         ap (λ rest. take at realms ++ rest) (sym (drop_more realms at realm here ∙ ap (λ r. r ∷ drop (at + 1) realms) (sym is)))
         ∙ take-append-drop at realms
 
-    pub loads_at : (limit : ℕ) (edit : Edit) → IsSound digest_realm realms → length (loadings realms) ≤ limit
+    pub loads_at : (limit : ℕ) (edit : Edit) → AreSound digest_realm realms → length (loadings realms) ≤ limit
         → loading realm.name realm.kind ≡ Some edit
         → fault (classed digest_realm realms) limit (loadings (take at realms)) edit ≡ None
     loads_at limit edit sound room load =
         subst (λ all. fault (classed digest_realm all) limit (loadings (take at realms)) edit ≡ None) whole
-        (loads limit (take at realms) realm (drop (at + 1) realms) edit (subst (IsSound digest_realm) (sym whole) sound)
+        (loads limit (take at realms) realm (drop (at + 1) realms) edit (subst (AreSound digest_realm) (sym whole) sound)
         (subst (λ all. length (loadings all) ≤ limit) (sym whole) room) load)
 
     pub loaded_next : (edit : Edit) → loading realm.name realm.kind ≡ Some edit
@@ -166,9 +166,9 @@ few_loadings (realm ∷ realms) = by (loading realm.name realm.kind) (few_loadin
     by None few = omega (arith, few)
     by (Some edit) few = omega (arith, few)
 
-pub loadings_few : (digest_realm : List ℕ) (realms : List RealmConfig) → IsSound digest_realm realms → length (loadings realms) ≤ 16
+pub loadings_few : (digest_realm : List ℕ) (realms : List RealmConfig) → AreSound digest_realm realms → length (loadings realms) ≤ 16
 loadings_few digest_realm realms sound =
     let few = few_loadings realms in
-    let few_realms = (sound_parts digest_realm realms sound).1 in
+    let few_realms = sound.few in
     let within : length realms ≤ 16 = leb-true (length realms) 16 (and_parts (leb 1 (length realms)) (leb (length realms) 16) few_realms).1 in
     omega (arith, few, within)

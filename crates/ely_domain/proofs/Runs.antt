@@ -34,7 +34,7 @@ use Rattle.ely_domain.specs.Machine.{Machine, Answered, known, answered, answere
 use Rattle.ely_domain.specs.Steps.{Reply, NotDue, Stays, Moves, reply, carried, is_carried, not_due, not_there}
 use Rattle.ely_domain.specs.Verdicts.{exchange, is_proof_of}
 use Rattle.ely_domain.specs.WhoGetsIn.{Said, Opening, opened_by, pinned_by, evidence_shown, edit_made, known_by, has_shown, is_shown, is_granted}
-use Rattle.ely_domain.proofs.Growing.{more, key_stays}
+use Rattle.ely_domain.proofs.Growing.{more, grants_stay, key_stays}
 use Rattle.ely_domain.proofs.Seeing.{itself_with, others_with, others_without}
 use Rattle.ely_domain.proofs.Tracking.{HoldsSaid, opening_of, IsSaid, IsPinSaid, IsTracked, Tracks, said_next, word_if, tracks, refused_pins_nothing}
 use Rattle.ely_domain.proofs.WordLists.{next, ended, since_open_push}
@@ -144,12 +144,6 @@ pub other_step : (k : Known) (live : Live) (event : Event) (c d : ℕ) → (c ==
 unfolding answered
 other_step k live event c d apart = other_found k live event c d apart (login_of live.logins d)
 
--- a permission stays as edits come
-granted_stays : (k : Known) (e : Edit) (o : Option Pinned) (wanted : List ℕ) → is_granted k o wanted ≡ true → is_granted (more k e) o wanted ≡ true
-unfolding grants
-granted_stays k e None wanted h = h
-granted_stays k e (Some p) wanted h = h
-
 -- what was said stays true as edits come
 grows_holds : (k : Known) (e : Edit) (opening : Opening) (said : Said) → said.opening ≡ Some opening → (stage : KnownStage)
     → HoldsSaid k said stage → HoldsSaid (more k e) said stage
@@ -167,8 +161,9 @@ grows_holds k e opening said opening_is stage holds = by stage holds
     shown_grows p is shown =
         rw (opening_is, is.pin) (by_evidence p said.evidence is.past ∙ rw (opening_is, is.pin) at shown)
 
-    granted_grows : is_granted k said.pin to_log_in ≡ true → is_granted (more k e) said.pin to_log_in ≡ true
-    granted_grows granted = granted_stays k e said.pin to_log_in granted
+    granted_grows : (p : Pinned) → IsPinSaid k p said → is_granted k said.pin to_log_in ≡ true → is_granted (more k e) said.pin to_log_in ≡ true
+    granted_grows p is granted =
+        rw is.pin (grants_stay k e p.version p.place to_log_in is.past ∙ rw is.pin at granted)
 
     by : (stage : KnownStage) → HoldsSaid k said stage → HoldsSaid (more k e) said stage
     by Fresh holds = tt
@@ -176,8 +171,8 @@ grows_holds k e opening said opening_is stage holds = by stage holds
     by (Named p key) holds = pin_grows p holds
     by (Checking p key evidence) holds = (pin_grows p holds.0, holds.1)
     by (Proved p) holds = (pin_grows p holds.0, shown_grows p holds.0 holds.1)
-    by (Authorized p) holds = (pin_grows p holds.0, shown_grows p holds.0 holds.1, granted_grows holds.2)
-    by (Complete p) holds = (pin_grows p holds.0, shown_grows p holds.0 holds.1, granted_grows holds.2)
+    by (Authorized p) holds = (pin_grows p holds.0, shown_grows p holds.0 holds.1, granted_grows p holds.0 holds.2)
+    by (Complete p) holds = (pin_grows p holds.0, shown_grows p holds.0 holds.1, granted_grows p holds.0 holds.2)
     by Failed holds = tt
 
 grows_said : (k : Known) (e : Edit) (said : Said) (found : Option KnownLogin) → IsSaid k said found → IsSaid (more k e) said found

@@ -15,12 +15,13 @@ use Rattle.ely_context.specs.declared.stage.Stage.TheVariants.{Fresh, Loading, N
 use Rattle.ely_context.specs.declared.naming.Naming.{Naming}
 use Rattle.ely_context.specs.Contexts.{ContextStage, ContextLogin, naming}
 use Rattle.ely_context.specs.ContextTable as table
-use Rattle.ely_context.specs.Stages.{loading_pin, proved_pin, checked_parts, at_stage}
+use Rattle.ely_context.specs.Stages.{loading_pin, proved_pin, complete_pin, checked_parts, at_stage}
+use Rattle.ely_perm.specs.Grants.{granted}
 use Rattle.ely_domain.specs.declared.naming.Found.{Found}
 use Rattle.ely_domain.specs.declared.prepared.Prepared.{Prepared}
-use Rattle.ely_domain.specs.Contexts.{IsPin, HoldsIts, IsSoundAt, StaysSound, IsReply, Finds, Asks, pinned, seen_login}
-use Rattle.ely_domain.specs.Identities.{Known, key_at}
-use Rattle.ely_domain.specs.Steps.{is_evidence_of, announced, name2, check2, authorize}
+use Rattle.ely_domain.specs.Contexts.{IsPin, HoldsIts, IsSoundAt, StaysSound, IsReply, Finds, Asks, pinned, prepared_for, seen_login}
+use Rattle.ely_domain.specs.Identities.{Known, key_at, roles, grants}
+use Rattle.ely_domain.specs.Steps.{is_evidence_of, announced, name2, check2, authorize, allows, yes_or_no}
 use Rattle.ely_domain.specs.Verdicts.{exchange, server_first, verdict}
 use Rattle.ely_domain.proofs.Keys.{key_of_row, key_mech}
 
@@ -39,6 +40,20 @@ moved_sound : (known : Known) (old new : ContextLogin) (stage : ContextStage)
     → StaysSound known old new
 moved_sound known old new stage moved sound prepared was =
     subst (IsSoundAt known prepared) (same_Some _ _ moved) (sound prepared was)
+
+-- what is granted to the name and the roles that a pin hands out is granted at the pinned version
+pub granted_as_prepared : (known : Known) (p : Pin) (prepared : Prepared) (wanted : List ℕ) (b : Bool) → prepared ≡ prepared_for known (pinned p)
+    → b ≡ granted known.given.config.permissions prepared.place.name prepared.roles wanted → grants known p.version p.place wanted ≡ b
+unfolding grants
+granted_as_prepared known p prepared wanted b is made =
+    sym (made ∙ ap (λ (r : Prepared). granted known.given.config.permissions r.place.name r.roles wanted) is)
+
+-- the same of roles that are those of the pinned version
+pub granted_as_pinned : (known : Known) (p : Pin) (found : List (List ℕ)) (wanted : List ℕ) (b : Bool) → found ≡ roles known p.version p.place
+    → b ≡ granted known.given.config.permissions p.place.name found wanted → grants known p.version p.place wanted ≡ b
+unfolding grants
+granted_as_pinned known p found wanted b is made =
+    sym (made ∙ ap (λ names. granted known.given.config.permissions p.place.name names wanted) is)
 
 module _ (known : Known) (serial : ℕ) (mech : Mech) (nonce : List ℕ) where
   abbrev login : ContextStage → ContextLogin
@@ -188,6 +203,25 @@ module _ (known : Known) (serial : ℕ) (mech : Mech) (nonce : List ℕ) where
   proved_holds (Authorized q) p is holds = cc
   proved_holds (Complete q) p is holds = cc
   proved_holds Failed p is holds = cc
+
+  -- a login whose pin is that of a complete one is complete
+  pub complete_holds : (stage : ContextStage) (p : Pin) → complete_pin stage ≡ Some p → HoldsIts known mech nonce stage
+      → (stage ≡ Complete p) × IsPin known mech p
+  complete_holds (Complete q) p is holds = let same = same_Some _ _ is in (ap Complete same, subst (IsPin known mech) same holds)
+  complete_holds Fresh p is holds = cc
+  complete_holds (Loading q) p is holds = cc
+  complete_holds (Named q key) p is holds = cc
+  complete_holds (Checking q key evidence) p is holds = cc
+  complete_holds (Proved q) p is holds = cc
+  complete_holds (Authorized q) p is holds = cc
+  complete_holds Failed p is holds = cc
+
+  -- what a complete login is told of a permission
+  pub allowed_reply : (stage : ContextStage) (p : Pin) (wanted : List ℕ) (b : Bool) → stage ≡ Complete p → grants known p.version p.place wanted ≡ b
+      → IsReply (allows known wanted (seen_login (login stage)).stage) outcomes.State (login stage) (yes_or_no b) (login stage)
+  allowed_reply stage p wanted b is granted =
+      at_stage_known (λ s. IsReply (allows known wanted (seen_login (login s)).stage) outcomes.State (login s) (yes_or_no b) (login s))
+      stage (Complete p) is (rw granted (refl, refl))
 
   -- what an authorization answers that was refused
   pub refused_reply : (stage : ContextStage) (refusal : Outcome) → Asks known stage (Err refusal)

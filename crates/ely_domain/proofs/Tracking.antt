@@ -7,8 +7,8 @@ use Rattle.std.proofs.lemmas.List.Folds.{list_any-append}
 use Rattle.ely_base.specs.Refused.{◌>>=◌, refused_as}
 use Rattle.ely_row.specs.declared.cred.Credential.{Credential}
 use Rattle.ely_row.specs.declared.mech.Mech.{Mech}
-use Rattle.ely_row.specs.declared.place.PipeFault.{PipeFault}
-use Rattle.ely_row.specs.declared.place.Place.{Place}
+use Rattle.ely_pipeline.specs.declared.place.PipeFault.{PipeFault}
+use Rattle.ely_pipeline.specs.declared.place.Place.{Place}
 use Rattle.ely_row.specs.Rows.{Row}
 use Rattle.ely_cred.specs.Keys.{chosen}
 use Rattle.ely_script.specs.declared.claim.Claim.{Claim}

@@ -1,5 +1,5 @@
 -- What a domain is made with, and what follows from it alone.
-use Rattle.std.specs.Prelude.{ℕ, List, [], ◌∷◌, ◌++◌, take, map, codes, Option, Some, None, unwrap_or, Result, Ok}
+use Rattle.std.specs.Prelude.{ℕ, List, [], ◌∷◌, ◌++◌, take, map, codes, Option, Some, None, unwrap_or, Result}
 use Rattle.std.specs.List.{filter_map}
 use Rattle.std.specs.Int.{w64, to_be_bytes}
 use Rattle.ely_base.specs.Texts.{hex_text}
@@ -8,8 +8,9 @@ use Rattle.ely_row.specs.declared.edit.Edit.{Edit}
 use Rattle.ely_row.specs.declared.edit.Edit.TheVariants.{Reload}
 use Rattle.ely_row.specs.declared.mech.Mech.{Mech}
 use Rattle.ely_row.specs.declared.mech.Mech.TheVariants as mechs
-use Rattle.ely_row.specs.declared.place.PipeFault.{PipeFault}
-use Rattle.ely_row.specs.declared.place.Place.{Place}
+use Rattle.ely_pipeline.specs.declared.place.PipeFault.{PipeFault}
+use Rattle.ely_pipeline.specs.declared.place.Place.{Place}
+use Rattle.ely_pipeline.specs.Places as places
 use Rattle.ely_table.specs.declared.class.RealmClass.{RealmClass}
 use Rattle.ely_table.specs.declared.class.RealmClass.TheVariants as classes
 use Rattle.ely_config.specs.declared.realm.RealmConfig.{RealmConfig}
@@ -48,18 +49,9 @@ loadings realms = filter_map (λ realm. loading realm.name realm.kind) realms
 abbrev pub start : Given → List Edit
 start given = loadings given.config.realms
 
--- the attribute whose values are the roles of a realm's identities
-abbrev pub role_attribute : Given → List ℕ → List ℕ
-role_attribute given realm = codes "groups"
-
--- the realm in which names are looked for: the first
-abbrev pub first_realm : List RealmConfig → List ℕ
-first_realm [] = []
-first_realm (realm ∷ realms) = realm.name
-
--- the place of a name, or the first stage on the way to it that gives nothing
-unfoldable pub place_of : Given → List ℕ → Result Place PipeFault
-place_of given name = Ok (record { realm = first_realm given.config.realms; name = name })
+-- the place of a name by the stages of the configuration, or the first stage that gives nothing
+abbrev pub place_of : Given → List ℕ → Result Place PipeFault
+place_of given name = places.place_of given.config.pipeline name
 
 -- the nonce of an open that brings none: the first 16 bytes of a digest of the seed and the serial, in hexadecimal
 unfoldable pub derived_nonce : List ℕ → ℕ → List ℕ

@@ -5,7 +5,7 @@ use Rattle.std.specs.Str.{bytes_eq}
 use Rattle.ely_base.specs.Refused.{◌>>=◌, refused_as}
 use Rattle.ely_row.specs.declared.mech.Mech.{Mech}
 use Rattle.ely_row.specs.declared.mech.Mech.TheVariants as mechs
-use Rattle.ely_row.specs.declared.place.Place.{Place}
+use Rattle.ely_pipeline.specs.declared.place.Place.{Place}
 use Rattle.ely_row.specs.Rows.{Row}
 use Rattle.ely_script.specs.declared.claim.Claim.{Claim}
 use Rattle.ely_script.specs.declared.claim.Claim.TheVariants as claims

@@ -5,8 +5,8 @@ use Rattle.std.specs.List.{filter_map}
 use Rattle.std.specs.Option.{option_or}
 use Rattle.ely_row.specs.declared.edit.Edit.{Edit}
 use Rattle.ely_row.specs.declared.mech.Mech.{Mech}
-use Rattle.ely_row.specs.declared.place.PipeFault.{PipeFault}
-use Rattle.ely_row.specs.declared.place.Place.{Place}
+use Rattle.ely_pipeline.specs.declared.place.PipeFault.{PipeFault}
+use Rattle.ely_pipeline.specs.declared.place.Place.{Place}
 use Rattle.ely_script.specs.declared.claim.Claim.{Claim}
 use Rattle.ely_script.specs.declared.claim.Evidence.{Evidence}
 use Rattle.ely_script.specs.declared.outcome.Outcome.{Outcome}

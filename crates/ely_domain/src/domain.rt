@@ -53,12 +53,17 @@ pub struct Domain {
 }
 
 impl Model for Domain {
+    ghost use Rattle.std.specs.Coded.{codes};
+    ghost use Rattle.ely_pipeline.specs.contracts.rule.Rule as rule;
+    ghost use Rattle.ely_roles.specs.contracts.mapper.RoleMapper as mapper;
     ghost use Rattle.ely_domain.specs.Domains.{Seen};
     ghost use Rattle.std.specs.Prelude.{◌≡◌};
     ghost use Rattle.ely_domain.specs.Given.{realms};
     ghost use Rattle.ely_domain.specs.Contexts.{IsSound, read_of, seen_live};
 
     ghost Value = { Seen };
+
+    ghost coded = { Prim.hlevel (codes, rule.the_row.coded, mapper.the_row.coded) };
 
     ghost view = { λ d. record {
       given = record { config = d.config; limit = d.tables.limit };

@@ -4,94 +4,90 @@ ghost use Rattle.std.specs.Prelude.{◌≡◌, ℕ, ◌==◌, false, IfOk, OnErr
 ghost use Rattle.ely_row.specs.declared.mech.Mech.{Mech};
 ghost use Rattle.ely_context.specs.Logins.{login_of};
 ghost use Rattle.ely_domain.specs.Contexts.{Asks, HoldsIts, IsPin, IsReply, IsSoundAt, pinned, prepared_for, read_of, seen_login};
-ghost use Rattle.ely_domain.specs.Identities.{Known, as_set, roles_in, grants};
-ghost use Rattle.ely_domain.specs.Steps.{authorize, allows, succeed, fail};
+ghost use Rattle.ely_domain.specs.Identities.{roles, roles_in};
+ghost use Rattle.ely_domain.specs.Steps.{authorize, allows, yes_or_no, succeed, fail};
 
 use crate::handouts::Handouts;
 use crate::prepared::Prepared;
-use ely_base::{Bytes, CtxId, Items, Name, NoMemory};
+use ely_base::{Bytes, CtxId, Name, NoMemory};
 use ely_config::Config;
 use ely_context::{Context, Pin};
-use ely_row::{Place, Row};
+use ely_perm::granted;
+use ely_roles::roles_of;
+use ely_row::{Roles, Row};
 use ely_script::Outcome;
 use ely_table::Tables;
 use std::alloc::Global;
-use std::collections::BTreeSet;
 
-/// Whether a pin has the permission: the one that there is, `login`, is everybody's.
-#[tactic(auto, unfolding(crate::specs::Identities::grants))]
-fn grants(pin: &Pin, wanted: &[u8]) -> bool
-    ensures { (known : Known) → result ≡ grants known pin.now.version pin.now.place wanted.now }
-{
-    wanted == b"login".as_slice()
-}
-
-/// The names as a set, in the order of their bytes.
-#[tactic(auto, using(std::proofs::lemmas::List::Sums::fold_more))]
-fn set_of(alloc: Global, values: &[Name]) -> Result<BTreeSet<Name>, NoMemory>
-    ensures { IfOk result (λ set. set.keys ≡ as_set values.now) }
-{
-    let mut set = BTreeSet::new(alloc);
-    for value in values {
-        set.insert(value.copy(alloc)?)?;
-    }
-    Ok(set)
-}
-
-/// The names of a set, in its order.
-fn listed(alloc: Global, set: &BTreeSet<Name>) -> Result<Items<Name>, NoMemory>
-    ensures { IfOk result (λ list. list ≡ set.now.keys) }
-{
-    let mut list = Vec::new(alloc);
-    for name in set {
-        list.push(name.copy(alloc)?)?;
-    }
-    Ok(Items::of(list))
-}
-
-/// The roles of an identity: the values of that attribute.
+/// The roles of an identity of that realm.
 #[tactic(auto, unfolding(crate::specs::Identities::roles_in))]
-fn roles_in(alloc: Global, attribute: &Name, row: &Row) -> Result<Items<Name>, NoMemory>
-    ensures { IfOk result (λ found. found ≡ roles_in attribute.now (Some row.now)) }
+fn roles_in(alloc: Global, config: &Config, realm: &Name, row: &Row) -> Result<Roles, NoMemory>
+    ensures { IfOk result (λ found. found ≡ roles_in config.now realm.now (Some row.now)) }
 {
-    match row.attr(attribute) {
-        None => Ok(Items::of(Vec::new(alloc))),
-        Some(values) => {
-            let set = set_of(alloc, values.all())?;
-            listed(alloc, &set)
-        }
+    match config.realm_named(realm) {
+        None => Roles::of(alloc, Vec::new(alloc)),
+        Some(realm) => roles_of(
+            alloc,
+            &realm.role_attribute,
+            realm.role_mapper.as_ref(),
+            config.role_mapper(),
+            row,
+        ),
     }
+}
+
+/// The roles of what was pinned, as of the pinned version.
+fn roles_at(alloc: Global, config: &Config, tables: &Tables, pin: &Pin) -> Result<Roles, NoMemory>
+    ensures { IfOk result (λ found. (mech : Mech)
+        → IsPin (read_of config.now tables.now) mech pin.now
+        → found ≡ roles (read_of config.now tables.now) pin.now.version pin.now.place) }
+{
+    roles_in(alloc, config, &pin.place.realm, pin.row.row())
 }
 
 /// What succeed hands out for a pin.
-fn prepared_for(alloc: Global, pin: &Pin) -> Result<Prepared, NoMemory>
-    ensures { IfOk result (λ found. (known : Known) (mech : Mech) → IsPin known mech pin.now
-        → found ≡ prepared_for known (pinned pin.now)) }
+fn prepared_for(
+    alloc: Global,
+    config: &Config,
+    tables: &Tables,
+    pin: &Pin,
+) -> Result<Prepared, NoMemory>
+    ensures { IfOk result (λ found. (mech : Mech)
+        → IsPin (read_of config.now tables.now) mech pin.now
+        → found ≡ prepared_for (read_of config.now tables.now) (pinned pin.now)) }
 {
-    let attribute = Name::of(Vec::from_slice(alloc, b"groups")?);
     Ok(Prepared {
         version: pin.version,
-        place: Place {
-            realm: pin.place.realm.copy(alloc)?,
-            name: pin.place.name.copy(alloc)?,
-        },
-        roles: roles_in(alloc, &attribute, pin.row.row())?,
+        place: pin.place.copy(alloc)?,
+        roles: roles_at(alloc, config, tables, pin)?,
     })
 }
 
 /// What a proved login would hand out, where the pinned version grants it to log in; or how it is refused.
-fn asked(alloc: Global, context: &Context) -> Result<Result<Prepared, Outcome>, NoMemory>
-    ensures { IfOk result (λ found. (known : Known)
-        → HoldsIts known context.now.mech context.now.nonce context.now.stage
-        → Asks known context.now.stage found) }
+fn asked(
+    alloc: Global,
+    config: &Config,
+    tables: &Tables,
+    context: &Context,
+) -> Result<Result<Prepared, Outcome>, NoMemory>
+    requires { HoldsIts (read_of config.now tables.now)
+        context.now.mech context.now.nonce context.now.stage }
+    ensures { IfOk result (λ found.
+        Asks (read_of config.now tables.now) context.now.stage found) }
 {
     let Some(pin) = context.proved() else {
         return Ok(Err(Outcome::State(context.state())));
     };
-    if !grants(pin, b"login") {
+    let prepared = prepared_for(alloc, config, tables, pin)?;
+    if !granted(
+        config.permissions(),
+        &prepared.place.name,
+        &prepared.roles,
+        b"login",
+    ) {
         return Ok(Err(Outcome::Denied(pin.version)));
     }
-    Ok(Ok(prepared_for(alloc, pin)?))
+    Ok(Ok(prepared))
 }
 
 /// Authorizes a proved login, where the pinned version grants it to log in.
@@ -113,7 +109,7 @@ pub(crate) fn authorize(
         → login_of handouts.new c ≡ login_of handouts.old c }
     ensures err { OnErr result ((context.new ≡ context.old) × (handouts.new ≡ handouts.old)) }
 {
-    match asked(alloc, context)? {
+    match asked(alloc, config, tables, context)? {
         Err(refusal) => Ok(refusal),
         Ok(prepared) => {
             handouts.keep(id, prepared)?;
@@ -125,19 +121,37 @@ pub(crate) fn authorize(
     }
 }
 
-/// Answers whether a complete login has the permission.
-pub(crate) fn allows(context: &Context, wanted: &Bytes) -> Outcome
-    ensures { (known : Known) → IsReply (allows known wanted.now (seen_login context.now).stage)
-        Outcome.State context.now result context.now }
+/// What is told of a permission.
+fn yes_or_no(granted: bool) -> Outcome
+    ensures { result ≡ yes_or_no granted }
+{
+    if granted { Outcome::Yes } else { Outcome::No }
+}
+
+/// Answers whether a complete login has the permission, as of the pinned version.
+pub(crate) fn allows(
+    alloc: Global,
+    config: &Config,
+    tables: &Tables,
+    context: &Context,
+    wanted: &Bytes,
+) -> Result<Outcome, NoMemory>
+    requires { HoldsIts (read_of config.now tables.now)
+        context.now.mech context.now.nonce context.now.stage }
+    ensures { IfOk result (λ outcome. IsReply
+        (allows (read_of config.now tables.now) wanted.now (seen_login context.now).stage)
+        Outcome.State context.now outcome context.now) }
 {
     let Some(pin) = context.complete() else {
-        return Outcome::State(context.state());
+        return Ok(Outcome::State(context.state()));
     };
-    if grants(pin, wanted.bytes()) {
-        Outcome::Yes
-    } else {
-        Outcome::No
-    }
+    let roles = roles_at(alloc, config, tables, pin)?;
+    Ok(yes_or_no(granted(
+        config.permissions(),
+        &pin.place.name,
+        &roles,
+        wanted.bytes(),
+    )))
 }
 
 /// Completes an authorized login, and hands out its identity. It takes no memory.

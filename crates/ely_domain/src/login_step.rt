@@ -63,7 +63,7 @@ fn move_login<L: Ledger>(
         Event::Check1 { evidence, .. } => Ok(check1(nonces, context, evidence)),
         Event::Check2 { done, .. } => Ok(check2(config, tables, context, done, steps)),
         Event::Authorize { .. } => authorize(alloc, config, tables, context, handouts, id),
-        Event::Allows { wanted, .. } => Ok(allows(context, &wanted)),
+        Event::Allows { wanted, .. } => allows(alloc, config, tables, context, &wanted),
         Event::Succeed { .. } => Ok(succeed(config, tables, context, handouts, id)),
         Event::Fail { .. } => Ok(fail(config, tables, context, handouts, id)),
         Event::Bad { .. } | Event::Change { .. } | Event::Begin { .. } | Event::Close { .. } => {

@@ -1,12 +1,11 @@
 //! Naming a login in two steps: who it is, and with which key.
 
 ghost use Rattle.std.specs.Prelude.{◌≡◌, ℕ, IfOk, IfSome, OnErr, Ok, Option, Some, IsSome};
-ghost use Rattle.ely_base.specs.Refused.{Gives};
 ghost use Rattle.ely_context.specs.declared.stage.Stage.TheVariants as stages;
 ghost use Rattle.ely_cred.specs.Keys.{chosen, ready_of, ready_cost};
 ghost use Rattle.ely_domain.specs.Contexts.{AreOf, Finds, HoldsIts, IsReply, IsSoundAt, StaysSound, read_of, seen_login};
 ghost use Rattle.ely_domain.specs.Costs.{RoseBy, naming_cost};
-ghost use Rattle.ely_domain.specs.Given.{Given, first_realm, place_of};
+ghost use Rattle.ely_domain.specs.Given.{Given};
 ghost use Rattle.ely_domain.specs.Jobs.{IsBrought, job_at};
 ghost use Rattle.ely_job.specs.declared.job.Work.TheVariants as works;
 ghost use Rattle.ely_domain.specs.Steps.{claimed_name, differs, is_other, is_alg_of, is_claim_of, serving, announced, name1, name2};
@@ -20,7 +19,8 @@ use ely_cred::{Ready, ReadyKey, choose, derive};
 use ely_digest_msg::DigestAlg;
 use ely_hash::Steps;
 use ely_job::{Done, discard};
-use ely_row::{Mech, PipeFault, Place, RowSource, SharedRow};
+use ely_pipeline::{Place, resolve};
+use ely_row::{Mech, RowSource, SharedRow};
 use ely_scram_msg::write_server_first;
 use ely_script::{Claim, Outcome, StateWord};
 use ely_table::Tables;
@@ -89,28 +89,6 @@ fn is_claim_of(mech: Mech, claim: &Claim) -> bool
     }
 }
 
-/// The name of the realm in which names are looked for: the first.
-fn first_realm(config: &Config) -> &Name
-    ensures { result.now ≡ first_realm config.now.realms }
-{
-    match config.realms().first() {
-        Some(realm) => &realm.name,
-        None => unreachable!(),
-    }
-}
-
-/// The place of a name.
-#[tactic(auto, unfolding(crate::specs::Given::place_of))]
-fn place_of(alloc: Global, config: &Config, name: &Name) -> Result<Place, Refused<PipeFault>>
-    ensures { (limit : ℕ) → Gives result
-        (place_of (record { config = config.now; limit = limit }) name.now) }
-{
-    Ok(Place {
-        realm: first_realm(config).copy(alloc)?,
-        name: name.copy(alloc)?,
-    })
-}
-
 /// The row of a place now, one of whose credentials serves the mechanism; or why there is none.
 #[tactic(auto, unfolding(crate::specs::Steps::serving, crate::specs::Identities::ident))]
 fn serving_row(
@@ -150,7 +128,7 @@ pub(crate) fn found_place(
     if is_other(claim) {
         return Ok(Err(Outcome::Authzid));
     }
-    let place = match place_of(alloc, config, claimed_name(claim)) {
+    let place = match resolve(alloc, config.pipeline(), claimed_name(claim)) {
         Ok(place) => place,
         Err(Refused::NoMemory) => return Err(NoMemory),
         Err(Refused::Fault(fault)) => return Ok(Err(Outcome::Pipe(fault))),

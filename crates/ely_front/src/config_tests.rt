@@ -4,12 +4,12 @@ ghost use Rattle.std.specs.Prelude.{◌≡◌, ◌<◌};
 
 use crate::first_line::Setup;
 use crate::run_line;
-use ely_base::{Bytes, CtxId, Name, NoMemory, Refused, Serial};
-use ely_config::{Config, RealmConfig, RealmKind};
+use ely_base::{Bytes, CtxId, Items, Name, NoMemory, Refused, Serial};
+use ely_config::{Config, Members, RealmConfig, RealmKind};
 use ely_domain::{Domain, Event};
 use ely_hash::Steps;
 use ely_job::discard;
-use ely_row::Params;
+use ely_pipeline::Rule;
 use ely_script::{
     Claim, Command, Entry, Evidence, LineError, Outcome, StateWord, push_step, read_line,
 };
@@ -78,7 +78,7 @@ fn push_script<L: Ledger>(
 }
 
 /// What the lines print under the configuration.
-fn counted<L: Ledger>(
+pub(crate) fn counted<L: Ledger>(
     blank: Blank,
     alloc: Global,
     config: Config,
@@ -98,24 +98,49 @@ fn counted<L: Ledger>(
     Ok(out)
 }
 
-/// A realm `main`, or one `file` of users and groups.
-fn realm(alloc: Global, texts: Option<(&[u8], &[u8])>) -> Result<RealmConfig, NoMemory> {
-    let Some((users, groups)) = texts else {
-        return Ok(RealmConfig {
-            name: Name::of(Vec::from_slice(alloc, b"main")?),
-            kind: RealmKind::Modifiable,
-        });
-    };
-    let name = Name::of(Vec::from_slice(alloc, b"file")?);
-    let users = Bytes::copy_of(alloc, users)?;
-    let groups = Bytes::copy_of(alloc, groups)?;
-    let plain = false;
-    let kind = RealmKind::Properties {
-        plain,
-        users,
-        groups,
-    };
-    Ok(RealmConfig { name, kind })
+/// A configuration of these parts.
+pub(crate) fn config_of(alloc: Global, members: Members) -> Result<Config, NoMemory> {
+    match Config::of(alloc, members) {
+        Ok(config) => Ok(config),
+        Err(_) => Err(NoMemory),
+    }
+}
+
+/// A realm `file` of users and groups.
+fn file_realm(alloc: Global, users: &[u8], groups: &[u8]) -> Result<RealmConfig, NoMemory> {
+    Ok(RealmConfig {
+        name: Name::of(Vec::from_slice(alloc, b"file")?),
+        kind: RealmKind::Properties {
+            plain: false,
+            users: Bytes::copy_of(alloc, users)?,
+            groups: Bytes::copy_of(alloc, groups)?,
+        },
+        role_attribute: Name::of(Vec::from_slice(alloc, b"groups")?),
+        role_mapper: None,
+    })
+}
+
+/// The realms that the stages of a name know: one that is named `file`, without a rule.
+fn known_file(alloc: Global) -> Result<Items<(Name, Option<Rule>)>, NoMemory> {
+    let mut known = Vec::new(alloc);
+    known.push((Name::of(Vec::from_slice(alloc, b"file")?), None))?;
+    Ok(Items::of(known))
+}
+
+/// The parts of a configuration whose one realm is `file`.
+fn with_file(
+    alloc: Global,
+    members: Members,
+    users: &[u8],
+    groups: &[u8],
+) -> Result<Members, NoMemory> {
+    let mut members = members;
+    let mut realms = Vec::new(alloc);
+    realms.push(file_realm(alloc, users, groups)?)?;
+    members.realms = Items::of(realms);
+    members.pipeline.realms = known_file(alloc)?;
+    members.pipeline.default_realm = Name::of(Vec::from_slice(alloc, b"file")?);
+    Ok(members)
 }
 
 /// A configuration with this realm of Digest and one realm, which is `main` or one of users and groups.
@@ -124,13 +149,12 @@ fn config(
     digest_realm: &[u8],
     texts: Option<(&[u8], &[u8])>,
 ) -> Result<Config, NoMemory> {
-    let announced = Bytes::copy_of(alloc, digest_realm)?;
-    let mut realms = Vec::new(alloc);
-    realms.push(realm(alloc, texts)?)?;
-    match Config::of(alloc, announced, Params::plain(alloc), realms) {
-        Ok(config) => Ok(config),
-        Err(_) => Err(NoMemory),
+    let mut members = Members::plain(alloc)?;
+    members.digest_realm = Bytes::copy_of(alloc, digest_realm)?;
+    if let Some((users, groups)) = texts {
+        members = with_file(alloc, members, users, groups)?;
     }
+    config_of(alloc, members)
 }
 
 /// What the script prints under the configuration.

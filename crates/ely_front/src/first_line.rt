@@ -27,10 +27,15 @@ pub(crate) struct Setup {
 }
 
 impl Model for Setup {
+    ghost use Rattle.std.specs.Coded.{codes};
     ghost use Rattle.std.specs.Prelude.{◌≤◌, length};
+    ghost use Rattle.ely_pipeline.specs.contracts.rule.Rule as rule;
+    ghost use Rattle.ely_roles.specs.contracts.mapper.RoleMapper as mapper;
     ghost use Rattle.ely_domain.specs.Given.{Given, loadings};
 
     ghost Value = { Given };
+
+    ghost coded = { Prim.hlevel (codes, rule.the_row.coded, mapper.the_row.coded) };
 
     ghost view = { λ s. record { config = s.config; limit = s.journal_limit } };
 

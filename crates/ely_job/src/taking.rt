@@ -18,7 +18,8 @@ use ely_base::Bytes;
 use ely_cred::Ready;
 use ely_digest_msg::DigestReply;
 use ely_hash::same;
-use ely_row::{Mech, Params, Place, SharedRow};
+use ely_pipeline::Place;
+use ely_row::{Mech, Params, SharedRow};
 use ely_scram_msg::{ClientFirst, ClientLast};
 
 /// Lets a value go. What owns much is let go here, since the prover looks into each drop wherever it stands.

@@ -1,2 +1,4 @@
 pub mod Appended
+pub mod SetLemmas
+pub mod Searches
 pub mod AfterEdits

@@ -5,3 +5,4 @@ pub mod Attributes
 pub mod Rows
 pub mod Edits
 pub mod Dependence
+pub mod Sets

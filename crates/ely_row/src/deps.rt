@@ -4,7 +4,7 @@ ghost use Rattle.std.specs.Prelude.{◌≡◌, ℕ, List, IfOk};
 ghost use Rattle.ely_row.specs.Dependence.{touches};
 
 use crate::edit::Edit;
-use ely_base::{Name, NoMemory};
+use ely_base::{Name, NoMemory, copy_pairs};
 use std::alloc::Global;
 use std::marker::Model;
 
@@ -18,17 +18,6 @@ impl Model for Deps {
     ghost Value = { List (List ℕ × List ℕ) };
 
     ghost view = { λ d. d.places.items };
-}
-
-/// Equal places, in the same order.
-fn copy_places(alloc: Global, places: &[(Name, Name)]) -> Result<Vec<(Name, Name)>, NoMemory>
-    ensures { IfOk result (λ copy. copy.items ≡ places.now) }
-{
-    let mut copy = Vec::new(alloc);
-    for place in places {
-        copy.push((place.0.copy(alloc)?, place.1.copy(alloc)?))?;
-    }
-    Ok(copy)
 }
 
 impl Deps {
@@ -51,7 +40,7 @@ impl Deps {
         ensures { IfOk result (λ copy. copy ≡ self.now) }
     {
         Ok(Deps {
-            places: copy_places(alloc, self.all())?,
+            places: copy_pairs(alloc, self.all())?,
         })
     }
 }

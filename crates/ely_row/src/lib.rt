@@ -1,5 +1,5 @@
-//! Identities and the edits that make them: mechanisms, stored credentials, values of attributes, rows, places, and which
-//! edits touch which places. It stands on `ely_base` and, for the type of a digest, on `ely_hash`; its definitions say what
+//! Identities and the edits that make them: mechanisms, stored credentials, values of attributes, rows, sets of roles, and
+//! which edits touch which places. It stands on `ely_base` and, for the type of a digest, on `ely_hash`; its definitions say what
 //! a journal of edits makes of a name.
 #![tactic(auto)]
 
@@ -13,9 +13,10 @@ mod ha1;
 mod laws;
 mod mech;
 mod params;
-mod place;
+mod roles;
 mod row;
 mod salted;
+mod sets;
 mod shared;
 mod values;
 
@@ -28,9 +29,10 @@ pub use ha1::{Ha1, is_realm};
 pub use laws::untouched_row_stays;
 pub use mech::Mech;
 pub use params::Params;
-pub use place::{PipeFault, Place};
+pub use roles::{Roles, is_among};
 pub use row::Row;
 pub use salted::{Salted, is_salt};
+pub use sets::sets_are_their_names;
 pub use shared::{RowSource, SharedRow};
 pub use values::Values;
 

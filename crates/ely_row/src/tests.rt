@@ -1,5 +1,5 @@
 use crate::{
-    CredFault, Credential, Deps, Edit, EditFault, Ha1, Params, Place, Row, Salted, SharedRow,
+    CredFault, Credential, Deps, Edit, EditFault, Ha1, Params, Roles, Row, Salted, SharedRow,
     StoredCred, Values, changed, row_fault, touches,
 };
 use ely_base::{Bytes, Name, NoMemory, Refused};
@@ -232,6 +232,7 @@ fn credentials_of_every_kind_are_copied_whole(rt: HostRuntime) -> Result<(), Fai
     crosses::<Edit>();
     crosses::<Deps>();
     crosses::<Params>();
+    crosses::<Roles>();
     let salted = b"2:c2FsdA==:6mwBTcctb4zNHtkqzh1B8NjeiVc=";
     let longer = b"3:c2FsdA==:AAECAwQFBgcICQoLDA0ODxAREhMUFRYXGBkaGxwdHh8=";
     let hashed = b"939e7578ed9e3c518a452acee763bce9:testrealm@host.com";
@@ -294,12 +295,6 @@ fn a_hash_has_a_realm_of_printable_bytes(rt: HostRuntime) -> Result<(), Fail> {
         let made = Tag::of(&[1; 16]).and_then(|hash| Ha1::of(realm, hash));
         assert!(rt; made.is_some() == kept);
     }
-    let place = Place {
-        realm: name(rt.alloc(), b"main")?,
-        name: name(rt.alloc(), b"u")?,
-    };
-    let copy = place.copy(rt.alloc())?;
-    assert!(rt; copy.realm.is(&place.realm) && copy.name.is(&place.name));
     Ok(())
 }
 
@@ -356,5 +351,30 @@ fn an_edit_touches_its_own_place_and_a_reload_its_whole_realm(rt: HostRuntime) -
             assert!(rt; touches(edit, &deps) == expected);
         }
     }
+    Ok(())
+}
+
+#[test]
+fn roles_are_a_set_in_the_order_of_bytes(rt: HostRuntime) -> Result<(), Fail> {
+    let mut list = Vec::new(rt.alloc());
+    for text in [
+        b"ops".as_slice(),
+        b"b",
+        b"Z",
+        b"ab",
+        b"a",
+        b"b",
+        b"\xC3\xA9",
+    ] {
+        list.push(name(rt.alloc(), text)?)?;
+    }
+    let roles = Roles::of(rt.alloc(), list)?.copy(rt.alloc())?;
+    let mut shown = Vec::new(rt.alloc());
+    for role in roles.all() {
+        shown.extend_from_slice(role.bytes())?;
+        shown.push(b' ')?;
+    }
+    assert_eq!(rt; shown.as_slice(), b"Z a ab b ops \xC3\xA9 ".as_slice());
+    assert!(rt; roles.has(&name(rt.alloc(), b"ab")?) && !roles.has(&name(rt.alloc(), b"A")?));
     Ok(())
 }

@@ -3,7 +3,7 @@
 ghost use Rattle.std.specs.Prelude.{◌≡◌, ◌↔◌, IsTrue, is_ok, IfOk, IfErr};
 ghost use Rattle.ely_row.specs.Attributes.{is_values};
 
-use ely_base::{Items, Name, NoMemory};
+use ely_base::{Items, Name, NoMemory, copy_names};
 use std::alloc::Global;
 use std::marker::Model;
 
@@ -25,17 +25,6 @@ impl Model for Values {
     ghost view = { λ v. v.names };
 
     ghost invariant = { λ v. IsTrue (is_values v.names) };
-}
-
-/// Equal names, in the same order.
-fn copy_names(alloc: Global, names: &[Name]) -> Result<Vec<Name>, NoMemory>
-    ensures { IfOk result (λ copy. copy.items ≡ names.now) }
-{
-    let mut copy = Vec::new(alloc);
-    for name in names {
-        copy.push(name.copy(alloc)?)?;
-    }
-    Ok(copy)
 }
 
 /// Whether both are the same names, in the same order.

@@ -13,8 +13,8 @@ use Rattle.ely_row.specs.declared.edit.EditFault.{EditFault}
 use Rattle.ely_row.specs.declared.edit.EditFault.TheVariants as faults
 use Rattle.ely_row.specs.declared.edit.PropFault.{PropFault}
 use Rattle.ely_row.specs.declared.edit.PropFault.TheVariants as props
-use Rattle.ely_row.specs.declared.place.PipeFault.{PipeFault}
-use Rattle.ely_row.specs.declared.place.PipeFault.TheVariants as pipes
+use Rattle.ely_pipeline.specs.declared.place.PipeFault.{PipeFault}
+use Rattle.ely_pipeline.specs.declared.place.PipeFault.TheVariants as pipes
 use Rattle.ely_scram_msg.specs.declared.fault.MsgFault.{MsgFault}
 use Rattle.ely_scram_msg.specs.declared.fault.MsgKind.{MsgKind}
 use Rattle.ely_scram_msg.specs.declared.fault.MsgKind.TheVariants as kinds

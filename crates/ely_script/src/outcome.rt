@@ -4,11 +4,12 @@ ghost use Rattle.std.specs.Prelude.{◌≡◌};
 ghost use Rattle.ely_script.specs.Outcomes.{is_accepted};
 
 use crate::word::StateWord;
-use ely_base::{Bytes, Items, Name, Serial, Version};
+use ely_base::{Bytes, Serial, Version};
 use ely_digest_msg::DigestFault;
 use ely_hash::Tag;
+use ely_pipeline::{PipeFault, Place};
 use ely_plain::PlainFault;
-use ely_row::{CredFault, EditFault, Mech, PipeFault, Place};
+use ely_row::{CredFault, EditFault, Mech, Roles};
 use ely_scram_msg::MsgFault;
 
 /// Why a line is no command, the first fault. Words are counted from 1.
@@ -82,7 +83,7 @@ pub enum Outcome {
     Fine,
     /// The nonce was not issued, or is forgotten.
     Stale,
-    /// The count was spent; this is the last one.
+    /// The last count that was accepted, which the header's isn't above.
     Replayed(u32),
     /// The evidence holds, with the server's verifier where the mechanism has one.
     Proved(Option<Tag>),
@@ -94,11 +95,11 @@ pub enum Outcome {
     Proof,
     /// The password is wrong.
     Password,
-    /// The realm isn't the one of the credential.
+    /// The header's realm isn't the one of the stored hash, or for a clear password the one that was announced.
     Realm,
-    /// The target isn't the one of the request.
+    /// The header's URI isn't the target of the request.
     Uri,
-    /// The response is wrong.
+    /// The header's response isn't the one of the formula.
     Response,
     /// The identity may log in.
     Authorized,
@@ -112,7 +113,7 @@ pub enum Outcome {
     Established {
         version: Version,
         place: Place,
-        roles: Items<Name>,
+        roles: Roles,
     },
 }
 

@@ -8,8 +8,9 @@ use crate::outcome::BadLine;
 use crate::write::{push_both, push_counted, push_text, push_worded};
 use ely_base::NoMemory;
 use ely_digest_msg::DigestFault;
+use ely_pipeline::PipeFault;
 use ely_plain::PlainFault;
-use ely_row::{CredFault, EditFault, PipeFault, PropFault};
+use ely_row::{CredFault, EditFault, PropFault};
 use ely_scram_msg::{MsgFault, MsgKind};
 
 fn cred_word(fault: CredFault) -> &'static [u8]

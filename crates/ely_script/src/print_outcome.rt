@@ -10,7 +10,7 @@ use crate::word::mech_word;
 use crate::write::{push_both, push_coded, push_counted, push_text, push_worded};
 use ely_base::{Bytes, Name, NoMemory};
 use ely_hash::Tag;
-use ely_row::Place;
+use ely_pipeline::Place;
 
 fn push_challenge(out: &mut Vec<u8>, challenge: &Option<Bytes>) -> Result<(), NoMemory>
     ensures ok { OnOk result (out.new.items ≡ out.old.items ++ challenge_text challenge.now) }

@@ -1,9 +1,10 @@
 use crate::{
     CacheWord, Entry, LineError, Outcome, StateWord, StepWord, Verb, print_step, read_line,
 };
-use ely_base::{Bytes, Items, Name, NoMemory, Refused, Serial, Version, cut_at};
+use ely_base::{Bytes, Name, NoMemory, Refused, Serial, Version, cut_at};
 use ely_hash::Tag;
-use ely_row::{Edit, EditFault, Mech, PipeFault, Place, PropFault};
+use ely_pipeline::{PipeFault, Place};
+use ely_row::{Edit, EditFault, Mech, PropFault, Roles};
 use std::alloc::Global;
 use std::test::Fail;
 
@@ -275,7 +276,7 @@ fn established(alloc: Global) -> Result<Outcome, Fail> {
     Ok(Outcome::Established {
         version: Version(3),
         place,
-        roles: Items::of(roles),
+        roles: Roles::of(alloc, roles)?,
     })
 }
 

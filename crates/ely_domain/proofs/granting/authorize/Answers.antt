@@ -9,20 +9,20 @@ pub returns-in-Err-clause-reply : goal.returns-in-Err-clause-reply
 returns-in-Err-clause-reply c =
     let login = c.args.context.now in
     let known = read_of c.args.config.now c.args.tables.now in
-    refused_reply known login.serial login.mech login.nonce login.stage c.in-Err.refusal (rw c.in-Err.is at (c.in_ok-refusal.ensures known c.requires.0))
+    refused_reply known login.serial login.mech login.nonce login.stage c.in-Err.refusal (rw c.in-Err.is at c.in_ok-refusal.ensures)
 
 pub returns-in-Ok-authorize-clause-reply : goal.returns-in-Ok-authorize-clause-reply
 returns-in-Ok-authorize-clause-reply c =
     let login = c.args.context.now in
     let known = read_of c.args.config.now c.args.tables.now in
-    authorized_reply known login.serial login.mech login.nonce login.stage c.authorize.new.self c.in-Ok.prepared (rw c.in-Ok.is at (c.in_ok-refusal.ensures known c.requires.0)) c.in-Ok-authorize.ensures.moved
+    authorized_reply known login.serial login.mech login.nonce login.stage c.authorize.new.self c.in-Ok.prepared (rw c.in-Ok.is at c.in_ok-refusal.ensures) c.in-Ok-authorize.ensures.moved
 
 pub returns-in-Ok-authorize-clause-sound : goal.returns-in-Ok-authorize-clause-sound
 returns-in-Ok-authorize-clause-sound c =
     let login = c.args.context.now in
     let known = read_of c.args.config.now c.args.tables.now in
     authorized_sound known login.serial login.mech login.nonce login.stage c.authorize.new.self c.in-Ok.prepared (login_of c.keep.new.self c.args.id)
-    (rw c.in-Ok.is at (c.in_ok-refusal.ensures known c.requires.0)) c.requires.0
+    (rw c.in-Ok.is at c.in_ok-refusal.ensures) c.requires.0
     (ap (λ entries. login_of entries c.args.id) c.in_ok-keep-in-Ok.ensures.kept ∙ itself_with c.args.handouts.now c.args.id c.in-Ok.prepared)
     c.in-Ok-authorize.ensures.moved
 
@@ -34,10 +34,10 @@ pub returns-in-Err-authorize-clause-sound : goal.returns-in-Err-authorize-clause
 returns-in-Err-authorize-clause-sound c =
     let login = c.args.context.now in
     let known = read_of c.args.config.now c.args.tables.now in
-    not_refused known login.serial login.mech login.nonce login.stage c.in-Ok.prepared (rw c.in-Ok.is at (c.in_ok-refusal.ensures known c.requires.0)) c.in-Err-authorize.ensures.refused
+    not_refused known login.serial login.mech login.nonce login.stage c.in-Ok.prepared (rw c.in-Ok.is at c.in_ok-refusal.ensures) c.in-Err-authorize.ensures.refused
 
 pub returns-in-Err-authorize-clause-others : goal.returns-in-Err-authorize-clause-others
 returns-in-Err-authorize-clause-others c =
     let login = c.args.context.now in
     let known = read_of c.args.config.now c.args.tables.now in
-    not_refused known login.serial login.mech login.nonce login.stage c.in-Ok.prepared (rw c.in-Ok.is at (c.in_ok-refusal.ensures known c.requires.0)) c.in-Err-authorize.ensures.refused
+    not_refused known login.serial login.mech login.nonce login.stage c.in-Ok.prepared (rw c.in-Ok.is at c.in_ok-refusal.ensures) c.in-Err-authorize.ensures.refused

@@ -1,5 +1,0 @@
-use Rattle.std.proofs.Common.{◌≡◌, take}
-use Rattle.ely_config.proofs.config.copy_realms.Given as goal
-
-abbrev pub invariant-loop-realm : goal.invariant-loop-realm
-invariant-loop-realm l = l.copy.items ≡ take l.realm-index l.realms

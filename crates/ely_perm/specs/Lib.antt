@@ -1,0 +1,4 @@
+pub mod Modes
+pub mod Grants
+pub mod Bounds
+pub mod ModeLaws

@@ -1,0 +1,3 @@
+pub mod Mappers
+pub mod RolesOf
+pub mod Bounds
