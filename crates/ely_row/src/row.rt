@@ -176,6 +176,14 @@ impl Row {
         &self.creds
     }
 
+    /// The attributes by their names, the names rising.
+    pub fn attrs(&self) -> &BTreeMap<Name, Values>
+        ensures entries { result.now.entries ≡ self.now.attrs }
+        ensures rise { IsOrdered name_cmp result.now }
+    {
+        &self.attrs
+    }
+
     /// Whether a credential may be put into the slot: one is there, or fewer than 8 are in all.
     pub fn has_cred_room(&self, slot: u8) -> bool
         ensures { result ≡ has_cred_room slot self.now }
@@ -226,6 +234,21 @@ impl Row {
         let Row { creds, mut attrs } = self;
         attrs.remove(attr);
         Row { creds, attrs }
+    }
+
+    /// An identity with equal credentials and these attributes, of which there are at most 32.
+    pub fn copy_with(
+        &self,
+        alloc: Global,
+        attrs: BTreeMap<Name, Values>,
+    ) -> Result<Row, NoMemory>
+        requires { length attrs.entries ≤ 32 }
+        ensures { IfOk result (λ row. row ≡ record { creds = self.now.creds; attrs = attrs.entries }) }
+    {
+        Ok(Row {
+            creds: copy_creds(alloc, &self.creds)?,
+            attrs,
+        })
     }
 
     /// An equal identity.
