@@ -237,11 +237,7 @@ impl Row {
     }
 
     /// An identity with equal credentials and these attributes, of which there are at most 32.
-    pub fn copy_with(
-        &self,
-        alloc: Global,
-        attrs: BTreeMap<Name, Values>,
-    ) -> Result<Row, NoMemory>
+    pub fn copy_with(&self, alloc: Global, attrs: BTreeMap<Name, Values>) -> Result<Row, NoMemory>
         requires { length attrs.entries ≤ 32 }
         ensures { IfOk result (λ row. row ≡ record { creds = self.now.creds; attrs = attrs.entries }) }
     {
