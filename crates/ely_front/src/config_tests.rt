@@ -9,7 +9,7 @@ use ely_config::{Config, Members, RealmConfig, RealmKind};
 use ely_domain::{Domain, Event};
 use ely_hash::Steps;
 use ely_job::discard;
-use ely_pipeline::Rule;
+use ely_pipeline::{Pipeline, Rule};
 use ely_script::{
     Claim, Command, Entry, Evidence, LineError, Outcome, StateWord, push_step, read_line,
 };
@@ -106,10 +106,15 @@ pub(crate) fn config_of(alloc: Global, members: Members) -> Result<Config, NoMem
     }
 }
 
+/// The name `file`.
+fn file_name(alloc: Global) -> Result<Name, NoMemory> {
+    Ok(Name::of(Vec::from_slice(alloc, b"file")?))
+}
+
 /// A realm `file` of users and groups.
 fn file_realm(alloc: Global, users: &[u8], groups: &[u8]) -> Result<RealmConfig, NoMemory> {
     Ok(RealmConfig {
-        name: Name::of(Vec::from_slice(alloc, b"file")?),
+        name: file_name(alloc)?,
         kind: RealmKind::Properties {
             plain: false,
             users: Bytes::copy_of(alloc, users)?,
@@ -123,24 +128,105 @@ fn file_realm(alloc: Global, users: &[u8], groups: &[u8]) -> Result<RealmConfig,
 /// The realms that the stages of a name know: one that is named `file`, without a rule.
 fn known_file(alloc: Global) -> Result<Items<(Name, Option<Rule>)>, NoMemory> {
     let mut known = Vec::new(alloc);
-    known.push((Name::of(Vec::from_slice(alloc, b"file")?), None))?;
+    known.push((file_name(alloc)?, None))?;
     Ok(Items::of(known))
 }
 
-/// The parts of a configuration whose one realm is `file`.
-fn with_file(
-    alloc: Global,
-    members: Members,
-    users: &[u8],
-    groups: &[u8],
-) -> Result<Members, NoMemory> {
-    let mut members = members;
-    let mut realms = Vec::new(alloc);
-    realms.push(file_realm(alloc, users, groups)?)?;
-    members.realms = Items::of(realms);
-    members.pipeline.realms = known_file(alloc)?;
-    members.pipeline.default_realm = Name::of(Vec::from_slice(alloc, b"file")?);
-    Ok(members)
+/// What a configuration has of a realm `file`.
+#[derive(Drop)]
+struct FileParts {
+    name: Name,
+    known: Items<(Name, Option<Rule>)>,
+    realms: Vec<RealmConfig>,
+}
+
+/// One realm `file` of users and groups.
+fn file_realms(alloc: Global, users: &[u8], groups: &[u8]) -> Result<Vec<RealmConfig>, NoMemory> {
+    let mut realms = Vec::with_capacity(alloc, 1)?;
+    let realm = file_realm(alloc, users, groups)?;
+    match realms.push(realm) {
+        Ok(()) => Ok(realms),
+        Err(_) => {
+            discard(realms);
+            Err(NoMemory)
+        }
+    }
+}
+
+/// What a configuration has whose one realm is `file`. What owns most is made last.
+fn file_parts(alloc: Global, users: &[u8], groups: &[u8]) -> Result<FileParts, NoMemory> {
+    let name = file_name(alloc)?;
+    let known = known_file(alloc)?;
+    let realms = file_realms(alloc, users, groups)?;
+    Ok(FileParts {
+        name,
+        known,
+        realms,
+    })
+}
+
+/// The members with these parts in place of their realms.
+fn with_parts(members: Members, parts: FileParts) -> Members {
+    let FileParts {
+        name,
+        known,
+        realms,
+    } = parts;
+    let Members {
+        digest_realm,
+        params,
+        pipeline,
+        realms: no_realms,
+        role_mapper,
+        permissions,
+    } = members;
+    discard(no_realms);
+    let Pipeline {
+        decoder,
+        pre,
+        mapper,
+        default_realm,
+        post,
+        realms: not_known,
+    } = pipeline;
+    discard(default_realm);
+    discard(not_known);
+    Members {
+        digest_realm,
+        params,
+        pipeline: Pipeline {
+            decoder,
+            pre,
+            mapper,
+            default_realm: name,
+            post,
+            realms: known,
+        },
+        realms: Items::of(realms),
+        role_mapper,
+        permissions,
+    }
+}
+
+/// The members with this realm of Digest.
+fn with_digest_realm(members: Members, realm: Bytes) -> Members {
+    let Members {
+        digest_realm,
+        params,
+        pipeline,
+        realms,
+        role_mapper,
+        permissions,
+    } = members;
+    discard(digest_realm);
+    Members {
+        digest_realm: realm,
+        params,
+        pipeline,
+        realms,
+        role_mapper,
+        permissions,
+    }
 }
 
 /// A configuration with this realm of Digest and one realm, which is `main` or one of users and groups.
@@ -149,12 +235,18 @@ fn config(
     digest_realm: &[u8],
     texts: Option<(&[u8], &[u8])>,
 ) -> Result<Config, NoMemory> {
-    let mut members = Members::plain(alloc)?;
-    members.digest_realm = Bytes::copy_of(alloc, digest_realm)?;
-    if let Some((users, groups)) = texts {
-        members = with_file(alloc, members, users, groups)?;
+    let realm = Bytes::copy_of(alloc, digest_realm)?;
+    let members = with_digest_realm(Members::plain(alloc)?, realm);
+    let Some((users, groups)) = texts else {
+        return config_of(alloc, members);
+    };
+    match file_parts(alloc, users, groups) {
+        Ok(parts) => config_of(alloc, with_parts(members, parts)),
+        Err(NoMemory) => {
+            discard(members);
+            Err(NoMemory)
+        }
     }
-    config_of(alloc, members)
 }
 
 /// What the script prints under the configuration.

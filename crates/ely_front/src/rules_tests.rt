@@ -3,6 +3,7 @@
 use crate::config_tests::{config_of, counted};
 use ely_base::{Bytes, Items, Name, NoMemory};
 use ely_config::Members;
+use ely_job::discard;
 use ely_perm::{Mode, PermRow, Permissions};
 use ely_pipeline::{Pipeline, RealmMapper, Rule};
 use ely_roles::RoleMapper;
@@ -21,22 +22,31 @@ fn printed(alloc: Global, members: Members, script: &[u8]) -> Result<Vec<u8>, No
     counted::<Brand>(Blank::new(1), alloc, config_of(alloc, members)?, script)
 }
 
-/// The stages of users who write `corp-USER@REALM`, with one realm `main`.
+/// The realm `main`, in which a name is what stands before `@`.
+fn known_main(alloc: Global) -> Result<Vec<(Name, Option<Rule>)>, NoMemory> {
+    let main = name(alloc, b"main")?;
+    let text = name(alloc, b"@")?;
+    let mut realms = Vec::with_capacity(alloc, 1)?;
+    match realms.push((main, Some(Rule::Before { text }))) {
+        Ok(()) => Ok(realms),
+        Err(_) => {
+            discard(realms);
+            Err(NoMemory)
+        }
+    }
+}
+
+/// The stages of users who write `corp-USER@REALM`, with one realm `main`. What owns most is made last.
 fn corporate(alloc: Global) -> Result<Pipeline, NoMemory> {
-    let mut realms = Vec::new(alloc);
-    let rule = Rule::Before {
-        text: name(alloc, b"@")?,
-    };
-    realms.push((name(alloc, b"main")?, Some(rule)))?;
+    let text = name(alloc, b"corp-")?;
+    let mark = name(alloc, b"@")?;
+    let default_realm = name(alloc, b"main")?;
+    let realms = known_main(alloc)?;
     Ok(Pipeline {
         decoder: None,
-        pre: Some(Rule::StripPrefix {
-            text: name(alloc, b"corp-")?,
-        }),
-        mapper: Some(RealmMapper::TakeAfter {
-            mark: name(alloc, b"@")?,
-        }),
-        default_realm: name(alloc, b"main")?,
+        pre: Some(Rule::StripPrefix { text }),
+        mapper: Some(RealmMapper::TakeAfter { mark }),
+        default_realm,
         post: None,
         realms: Items::of(realms),
     })
