@@ -10,7 +10,7 @@ use ely_cred::{Ready, choose, derive};
 use ely_hash::Steps;
 use ely_pipeline::Place;
 use ely_row::{Mech, Params, Row, SharedRow, StoredCred};
-use ely_script::{Claim, Evidence};
+use ely_script::{CacheWord, Claim, Evidence};
 use std::alloc::Global;
 use std::marker::Brand;
 use std::sync::ledger::{Blank, Ledger};
@@ -73,7 +73,8 @@ fn pin(alloc: Global, version: u64) -> Result<Pin, NoMemory> {
             authzid: None,
             name: name(alloc, b"user")?,
         },
-        miss: false,
+        found: CacheWord::Dash,
+        held: None,
     })
 }
 

@@ -17,10 +17,18 @@ use Rattle.ely_context.specs.Contexts.{ContextStage, ContextLogin, naming}
 use Rattle.ely_context.specs.ContextTable as table
 use Rattle.ely_context.specs.Stages.{loading_pin, proved_pin, complete_pin, checked_parts, at_stage}
 use Rattle.ely_perm.specs.Grants.{granted}
+use Rattle.ely_cache.specs.declared.caches.RealmCache.{RealmCache}
+use Rattle.ely_job.specs.Dones.{Done}
+use Rattle.ely_script.specs.declared.word.CacheWord.{CacheWord}
+use Rattle.ely_table.specs.Touching.{touched_since}
+use Rattle.ely_domain.specs.declared.event.Event.TheVariants as events
+use Rattle.ely_domain.specs.Caches.{Keeps, found_in, lists_of}
+use Rattle.ely_domain.specs.Keeping.{sought}
+use Rattle.ely_domain.specs.KeptKeys.{fill_by, stands_for, word_after}
 use Rattle.ely_domain.specs.declared.naming.Found.{Found}
 use Rattle.ely_domain.specs.declared.prepared.Prepared.{Prepared}
 use Rattle.ely_domain.specs.Contexts.{IsPin, HoldsIts, IsSoundAt, StaysSound, IsReply, Finds, Asks, pinned, prepared_for, seen_login}
-use Rattle.ely_domain.specs.Identities.{Known, key_at, roles, grants}
+use Rattle.ely_domain.specs.Identities.{Known, deps, key_at, roles, grants}
 use Rattle.ely_domain.specs.Steps.{is_evidence_of, announced, name2, check2, authorize, allows, yes_or_no}
 use Rattle.ely_domain.specs.Verdicts.{exchange, server_first, verdict}
 use Rattle.ely_domain.proofs.Keys.{key_of_row, key_mech}
@@ -112,6 +120,29 @@ module _ (known : Known) (serial : ℕ) (mech : Mech) (nonce : List ℕ) where
   named_reply (Authorized q) new p ready text outcome pin holds ready_is text_is told moved = cc
   named_reply (Complete q) new p ready text outcome pin holds ready_is text_is told moved = cc
   named_reply Failed new p ready text outcome pin holds ready_is text_is told moved = cc
+
+  -- and its fill is what the end of a naming means
+  pub named_keeps : (stage : ContextStage) (new : ContextLogin) (p : Pin) (ready : Ready) (text : Option (List ℕ)) (outcome : Outcome)
+      (c n : ℕ) (done : Option Done) (shown : CacheWord) (caches caches' : List RealmCache)
+      → loading_pin stage ≡ Some p → outcome ≡ announced text → table.after (login stage) (table.name2 (naming ready text)) ≡ Some new
+      → stands_for shown ≡ word_after p.found (touched_since known.edits p.version (deps known p.place))
+      → lists_of caches' ≡ fill_by shown p.place.realm (sought mech (pinned p)) (lists_of caches)
+      → Keeps known (events.Name2 c n done) outcome shown caches caches' (login stage) new
+  named_keeps (Loading q) new p ready text outcome c n done shown caches caches' pin told moved word lists =
+      let same : q ≡ p = same_Some _ _ pin in
+      let accepted : is_accepted outcome ≡ true = ap is_accepted told ∙ announced_accepted text in
+      rw accepted (rw (← same) at word, rw (← same) at lists, ap found_in (sym (same_Some _ _ moved)))
+    where
+      announced_accepted : (t : Option (List ℕ)) → is_accepted (announced t) ≡ true
+      announced_accepted None = refl
+      announced_accepted (Some t) = refl
+  named_keeps Fresh new p ready text outcome c n done shown caches caches' pin told moved word lists = cc
+  named_keeps (Named q key) new p ready text outcome c n done shown caches caches' pin told moved word lists = cc
+  named_keeps (Checking q key evidence) new p ready text outcome c n done shown caches caches' pin told moved word lists = cc
+  named_keeps (Proved q) new p ready text outcome c n done shown caches caches' pin told moved word lists = cc
+  named_keeps (Authorized q) new p ready text outcome c n done shown caches caches' pin told moved word lists = cc
+  named_keeps (Complete q) new p ready text outcome c n done shown caches caches' pin told moved word lists = cc
+  named_keeps Failed new p ready text outcome c n done shown caches caches' pin told moved word lists = cc
 
   -- a check's verdict leaves the pin
   pub checked_sound : (stage : ContextStage) (new : ContextLogin) (proved : Bool)

@@ -12,7 +12,7 @@ returns-in-Name2-clause-sound g c = c.name2.ensures.sound (login_of c.args.hando
 
 pub returns-in-Check1-clause-sound : goal.returns-in-Check1-clause-sound
 returns-in-Check1-clause-sound g c =
-    c.check1.ensures.sound (read_of c.args.config.now c.args.tables.now) (login_of c.args.handouts.now c.args.id) c.requires.sound
+    c.check1.ensures.sound (read_of c.args.planned.now c.args.tables.now) (login_of c.args.handouts.now c.args.id) c.requires.sound
 
 pub returns-in-Check2-clause-sound : goal.returns-in-Check2-clause-sound
 returns-in-Check2-clause-sound g c = c.check2.ensures.sound (login_of c.args.handouts.now c.args.id) c.requires.sound

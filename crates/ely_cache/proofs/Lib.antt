@@ -1,0 +1,11 @@
+pub mod Beginnings
+pub mod ByBytes
+pub mod Counts
+pub mod Drops
+pub mod Items
+pub mod KeptFacts
+pub mod Places
+pub mod Ranges
+pub mod Rests
+pub mod Ties
+pub mod Views

@@ -1,0 +1,100 @@
+-- The caches of all realms: their keys are the lists that are kept, and their entries are of now.
+use Rattle.std.proofs.Common.{◌≡◌, ℕ, Bool, true, false, cond, not, List, [], ◌∷◌, ◌++◌, map, length, Option, Some, None, refl, sym, ap, ap₂, ◌∙◌}
+use Rattle.std.specs.Prelude.{filter}
+use Rattle.std.specs.List.{AllByRecursion}
+use Rattle.std.specs.Option.{option_map}
+use Rattle.std.specs.Str.{bytes_eq}
+use Rattle.std.proofs.lemmas.Bool.{cases_Bool}
+use Rattle.ely_row.specs.declared.edit.Edit.{Edit}
+use Rattle.ely_row.specs.declared.mech.Mech.{Mech}
+use Rattle.ely_row.specs.Dependence.{touches}
+use Rattle.ely_cache.specs.declared.caches.RealmCache.{RealmCache}
+use Rattle.ely_cache.specs.declared.entry.Entry.{Entry}
+use Rattle.ely_cache.specs.Caches.{at_cache, cache_of, untouched_in}
+use Rattle.ely_cache.specs.Entries.{promoted, offered, untouched}
+use Rattle.ely_domain.specs.Caches.{AreCurrent, IsCurrent, key_in, keys_in, lists_of, place_in}
+use Rattle.ely_domain.specs.Identities.{Known, deps, key_at}
+use Rattle.ely_domain.specs.KeptKeys.{Key, RealmKeys, at_realm, dropped, filled, list_of, used, with_keys, untouched as untouched_keys}
+use Rattle.ely_domain.specs.Plans.{deps_in}
+use Rattle.ely_domain.proofs.KeyLists.{code_of, keys_promoted, keys_offered}
+use Rattle.ely_domain.proofs.Touching.{key_kept}
+
+-- the list of a realm is that of its cache
+pub list_is : (caches : List RealmCache) (r : List ℕ) → list_of (lists_of caches) r ≡ option_map keys_in (cache_of caches r)
+list_is [] r = refl
+list_is (c ∷ cs) r = by_test (list_is cs r) (bytes_eq c.realm r)
+  where
+    by_test : list_of (lists_of cs) r ≡ option_map keys_in (cache_of cs r) → (b : Bool)
+        → cond b (Some (keys_in c)) (list_of (lists_of cs) r) ≡ option_map keys_in (cond b (Some c) (cache_of cs r))
+    by_test later true = refl
+    by_test later false = later
+
+-- a change of the entries of a realm's cache changes its keys, where it is one of keys
+lists_at : (r : List ℕ) (change : ℕ → List Entry → List Entry) (by_keys : ℕ → List Key → List Key)
+    → ((limit : ℕ) (es : List Entry) → map key_in (change limit es) ≡ by_keys limit (map key_in es))
+    → (caches : List RealmCache) → lists_of (at_cache r change caches) ≡ at_realm r by_keys (lists_of caches)
+lists_at r change by_keys same [] = refl
+lists_at r change by_keys same (c ∷ cs) = by_test (lists_at r change by_keys same cs) (bytes_eq c.realm r)
+  where
+    by_test : lists_of (at_cache r change cs) ≡ at_realm r by_keys (lists_of cs) → (b : Bool)
+        → lists_of (cond b ((record { realm = c.realm; cache = record { limit = c.cache.limit; entries = change c.cache.limit c.cache.entries } }) ∷ cs) (c ∷ at_cache r change cs))
+        ≡ cond b (with_keys (keys_in c) (by_keys c.cache.limit (keys_in c).keys) ∷ lists_of cs) (keys_in c ∷ at_realm r by_keys (lists_of cs))
+    by_test later true = ap (λ ks. (let l : RealmKeys = record { realm = c.realm; limit = c.cache.limit; keys = ks } in l) ∷ lists_of cs) (same c.cache.limit c.cache.entries)
+    by_test later false = ap (λ ls. keys_in c ∷ ls) later
+
+pub lists_used : (r : List ℕ) (key : Key) (caches : List RealmCache)
+    → lists_of (at_cache r (λ limit. promoted (code_of key)) caches) ≡ at_realm r (λ limit. used key) (lists_of caches)
+lists_used r key caches = lists_at r (λ limit. promoted (code_of key)) (λ limit. used key) (λ limit es. keys_promoted key es) caches
+
+pub lists_filled : (r : List ℕ) (e : Entry) (caches : List RealmCache)
+    → lists_of (at_cache r (λ limit. offered limit e) caches) ≡ at_realm r (λ limit. filled limit (key_in e)) (lists_of caches)
+lists_filled r e caches = lists_at r (λ limit. offered limit e) (λ limit. filled limit (key_in e)) (λ limit es. keys_offered limit e es) caches
+
+-- ---- an edit
+
+module _ (known : Known) (edit : Edit) where
+  abbrev more : Known
+  more = record { given = known.given; edits = known.edits ++ edit ∷ [] }
+
+  -- an entry that the edit doesn't touch stays of now
+  entry_stays : (r : List ℕ) (e : Entry) → IsCurrent known r e → touches edit e.deps ≡ false → IsCurrent more r e
+  entry_stays r e is apart =
+      let none : touches edit (deps known (place_in r e.name)) ≡ false = ap (touches edit) (sym is.deps_are) ∙ apart in
+      record { deps_are = is.deps_are; ready_is = key_kept known e.mech (place_in r e.name) edit none ∙ is.ready_is }
+
+  entries_stay : (r : List ℕ) (es : List Entry) → AllByRecursion (IsCurrent known r) es → AllByRecursion (IsCurrent more r) (untouched edit es)
+  entries_stay r [] are = tt
+  entries_stay r (e ∷ es) are = by_test (touches edit e.deps) refl (entries_stay r es are.1)
+    where
+      by_test : (b : Bool) → touches edit e.deps ≡ b → AllByRecursion (IsCurrent more r) (untouched edit es)
+          → AllByRecursion (IsCurrent more r) (cond (not b) (e ∷ untouched edit es) (untouched edit es))
+      by_test true touched rest = rest
+      by_test false apart rest = (entry_stays r e are.0 apart, rest)
+
+  -- and so do the entries of all caches
+  pub current_stays : (caches : List RealmCache) → AreCurrent known caches → AreCurrent more (map (untouched_in edit) caches)
+  current_stays [] are = tt
+  current_stays (c ∷ cs) are = (entries_stay c.realm c.cache.entries are.0, current_stays cs are.1)
+
+  keys_stay : (r : List ℕ) (es : List Entry) → AllByRecursion (IsCurrent known r) es
+      → map key_in (untouched edit es) ≡ untouched_keys known.given.config.realms r edit (map key_in es)
+  keys_stay r [] are = refl
+  keys_stay r (e ∷ es) are =
+      by_test (touches edit e.deps) (keys_stay r es are.1)
+      ∙ ap (λ places. cond (not (touches edit places)) (key_in e ∷ rest) rest) are.0.deps_are
+    where
+      abbrev rest : List Key
+      rest = untouched_keys known.given.config.realms r edit (map key_in es)
+
+      by_test : (b : Bool) → map key_in (untouched edit es) ≡ rest
+          → map key_in (cond (not b) (e ∷ untouched edit es) (untouched edit es)) ≡ cond (not b) (key_in e ∷ rest) rest
+      by_test true later = later
+      by_test false later = ap (λ ks. key_in e ∷ ks) later
+
+  -- the keys that are left are those that the edit doesn't touch
+  pub lists_dropped : (caches : List RealmCache) → AreCurrent known caches
+      → lists_of (map (untouched_in edit) caches) ≡ dropped known.given.config.realms edit (lists_of caches)
+  lists_dropped [] are = refl
+  lists_dropped (c ∷ cs) are =
+      ap₂ (λ ks ls. (let l : RealmKeys = record { realm = c.realm; limit = c.cache.limit; keys = ks } in l) ∷ ls)
+      (keys_stay c.realm c.cache.entries are.0) (lists_dropped cs are.1)
