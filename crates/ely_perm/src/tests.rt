@@ -55,7 +55,7 @@ fn rows(alloc: Global, answers: &[u8]) -> Result<Vec<PermRow>, NoMemory> {
 fn each_mode_takes_the_answers_together(rt: HostRuntime) -> Result<(), Fail> {
     let alloc = rt.alloc();
     let user = name(alloc, b"user")?;
-    let roles = Roles::of(alloc, names(alloc, &[b"dev"])?)?;
+    let roles = Roles::of(names(alloc, &[b"dev"])?);
     let modes = [Mode::First, Mode::And, Mode::Or, Mode::Xor, Mode::Unless];
     let table: [(&[u8], &[u8; 5]); 16] = [
         (b"", b"nnnnn"),
@@ -136,7 +136,7 @@ fn a_row_is_for_names_for_roles_or_for_everybody(rt: HostRuntime) -> Result<(), 
             mode: Mode::First,
             rows: Items::of(rows),
         };
-        let roles = Roles::of(alloc, names(alloc, roles)?)?;
+        let roles = Roles::of(names(alloc, roles)?);
         assert!(rt; granted(&perms, &user, &roles, b"login") == wanted);
     }
     Ok(())
@@ -203,7 +203,7 @@ fn lists_and_texts_are_bounded(rt: HostRuntime) -> Result<(), Fail> {
 fn login_is_granted_to_everybody(rt: HostRuntime) -> Result<(), Fail> {
     let alloc = rt.alloc();
     let perms = Permissions::login_for_all(alloc)?;
-    let none = Roles::of(alloc, Vec::new(alloc))?;
+    let none = Roles::of(Vec::new(alloc));
     let user = name(alloc, b"user")?;
     assert!(rt; perms.fits());
     assert!(rt; granted(&perms, &user, &none, b"login"));

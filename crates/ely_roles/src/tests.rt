@@ -28,7 +28,7 @@ fn names(alloc: Global, text: &str) -> Result<Vec<Name>, NoMemory> {
 
 /// The set of the names of a text with a comma between.
 fn roles(alloc: Global, text: &str) -> Result<Roles, NoMemory> {
-    Roles::of(alloc, names(alloc, text)?)
+    Ok(Roles::of(names(alloc, text)?))
 }
 
 /// The roles with a comma between.
@@ -199,7 +199,7 @@ fn count_made(alloc: Global, mapper: &RoleMapper, bytes: usize) -> Result<usize,
     if let Ok(name) = Name::read(alloc, long.as_slice()) {
         list.push(name)?;
     }
-    let roles = Roles::of(alloc, list)?;
+    let roles = Roles::of(list);
     Ok(mapped_by(alloc, mapper, &roles)?.all().len())
 }
 

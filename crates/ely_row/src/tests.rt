@@ -368,7 +368,7 @@ fn roles_are_a_set_in_the_order_of_bytes(rt: HostRuntime) -> Result<(), Fail> {
     ] {
         list.push(name(rt.alloc(), text)?)?;
     }
-    let roles = Roles::of(rt.alloc(), list)?.copy(rt.alloc())?;
+    let roles = Roles::of(list).copy(rt.alloc())?;
     let mut shown = Vec::new(rt.alloc());
     for role in roles.all() {
         shown.extend_from_slice(role.bytes())?;

@@ -276,7 +276,7 @@ fn established(alloc: Global) -> Result<Outcome, Fail> {
     Ok(Outcome::Established {
         version: Version(3),
         place,
-        roles: Roles::of(alloc, roles)?,
+        roles: Roles::of(roles),
     })
 }
 
