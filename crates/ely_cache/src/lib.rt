@@ -4,6 +4,7 @@
 #![tactic(auto)]
 
 mod cache;
+mod caches;
 mod codes;
 mod entry;
 mod laws;
@@ -11,6 +12,7 @@ mod resting;
 mod slots;
 
 pub use cache::{Cache, Offered};
+pub use caches::{Caches, Peeked, RealmCache};
 pub use entry::Entry;
 pub use laws::codes_tell_apart;
 

@@ -1,8 +1,8 @@
-//! Rows of calls of a small cache, each with the users that have an entry afterwards.
+//! Rows of calls of small caches, each with the users that have an entry afterwards.
 
 ghost use Rattle.std.specs.Prelude.{◌≡◌, ◌<◌, ◌≤◌};
 
-use crate::{Cache, Offered};
+use crate::{Cache, Caches, Offered, Peeked};
 use ely_base::{Bytes, Name, NoMemory};
 use ely_cred::{Ready, choose, derive};
 use ely_hash::Steps;
@@ -250,9 +250,91 @@ fn a_reload_drops_what_rests_on_its_realm_and_nothing_else(rt: HostRuntime) -> R
     Ok(())
 }
 
+/// A call of the caches of realms, with what is then kept for the users a, b and c in each of three realms.
+#[derive(Clone, Copy)]
+struct Turn<'a> {
+    realm: &'a [u8],
+    call: Call<'a>,
+    kept: &'a [u8],
+}
+
+/// Makes the call in the realm, where it is not an edit.
+fn turn(alloc: Global, caches: &mut Caches, realm: &[u8], call: &Call<'_>) -> Result<(), NoMemory> {
+    let realm = name(alloc, realm)?;
+    match call {
+        Call::Offer(user, pairs) => {
+            let user = name(alloc, user)?;
+            let ready = ready(alloc, &user)?;
+            let deps = places(alloc, pairs)?;
+            caches.offer(alloc, &realm, user, Mech::Plain, ready, deps);
+        }
+        Call::Find(user, mech) => caches.use_key(&realm, &name(alloc, user)?, *mech),
+        Call::Change(other, user) => caches.drop_touched(&edit(alloc, other, Some(*user))?),
+        Call::Reload(other) => caches.drop_touched(&edit(alloc, other, None)?),
+    }
+    Ok(())
+}
+
+/// For each of three realms and three users: an x for a hit, a dot for a miss, and a dash where the realm has no cache.
+fn shown(alloc: Global, caches: &Caches) -> Result<Vec<u8>, NoMemory> {
+    let mut shown = Vec::new(alloc);
+    for realm in [b"one", b"two", b"new"] {
+        for user in [b'a', b'b', b'c'] {
+            let found = caches.peek(&name(alloc, realm)?, &name(alloc, &[user])?, Mech::Plain);
+            shown.push(match found {
+                Peeked::Hit(_) => b'x',
+                Peeked::Miss => b'.',
+                Peeked::NoCache => b'-',
+            })?;
+        }
+    }
+    Ok(shown)
+}
+
+/// How many of the turns go as they should, up to the first that doesn't, of caches of two entries for two realms.
+fn turned(alloc: Global, turns: &[Turn]) -> Result<usize, NoMemory> {
+    let mut caches = Caches::new(alloc);
+    caches.add(alloc, name(alloc, b"one")?, 2)?;
+    caches.add(alloc, name(alloc, b"two")?, 2)?;
+    for (i, each) in turns.iter().enumerate() {
+        turn(alloc, &mut caches, each.realm, &each.call)?;
+        if shown(alloc, &caches)?.as_slice() != each.kept {
+            return Ok(i);
+        }
+    }
+    Ok(turns.len())
+}
+
+fn in_realm<'a>(realm: &'a [u8], call: Call<'a>, kept: &'a [u8]) -> Turn<'a> {
+    Turn { realm, call, kept }
+}
+
+#[test]
+fn each_realm_has_its_own_entries_and_an_edit_reaches_all(rt: HostRuntime) -> Result<(), Fail> {
+    let turns = [
+        in_realm(b"one", Call::Offer(b"a", &[(b"keys", b"a")]), b"x.....---"),
+        in_realm(b"two", Call::Offer(b"a", &[(b"keys", b"a")]), b"x..x..---"),
+        in_realm(b"new", Call::Offer(b"a", MAIN), b"x..x..---"),
+        in_realm(b"two", Call::Offer(b"b", MAIN), b"x..xx.---"),
+        in_realm(b"one", Call::Offer(b"c", MAIN), b"x.xxx.---"),
+        // The realm's own order: a is used in one of them, and goes in the other.
+        in_realm(b"one", Call::Find(b"a", Mech::Plain), b"x.xxx.---"),
+        in_realm(b"new", Call::Find(b"a", Mech::Plain), b"x.xxx.---"),
+        in_realm(b"one", Call::Offer(b"b", MAIN), b"xx.xx.---"),
+        in_realm(b"two", Call::Offer(b"c", &[(b"keys", b"c")]), b"xx..xx---"),
+        in_realm(b"two", Call::Offer(b"a", &[(b"keys", b"a")]), b"xx.x.x---"),
+        in_realm(b"one", Call::Change(b"keys", b"a"), b".x...x---"),
+        in_realm(b"one", Call::Reload(b"main"), b".....x---"),
+        in_realm(b"one", Call::Reload(b"keys"), b"......---"),
+    ];
+    assert_eq!(rt; turned(rt.alloc(), &turns)?, turns.len());
+    Ok(())
+}
+
 fn crosses<T: Send + Sync>() {}
 
 #[test]
 fn a_cache_may_cross_threads(_rt: HostRuntime) {
     crosses::<Cache>();
+    crosses::<Caches>();
 }

@@ -1,22 +1,29 @@
 -- The caches of all realms: their keys are the lists that are kept, and their entries are of now.
-use Rattle.std.proofs.Common.{◌≡◌, ℕ, Bool, true, false, cond, not, List, [], ◌∷◌, ◌++◌, map, length, Option, Some, None, refl, sym, ap, ap₂, ◌∙◌}
-use Rattle.std.specs.Prelude.{filter}
+use Rattle.std.proofs.Common.{◌≡◌, ℕ, Bool, true, false, cond, not, List, [], ◌∷◌, ◌++◌, map, length, Option, Some, None, refl, sym, ap, ap₂, subst, ◌∙◌}
+use Rattle.std.specs.Prelude.{filter, is_some}
 use Rattle.std.specs.List.{AllByRecursion}
 use Rattle.std.specs.Option.{option_map}
 use Rattle.std.specs.Str.{bytes_eq}
-use Rattle.std.proofs.lemmas.Bool.{cases_Bool}
+use Rattle.std.proofs.lemmas.Slice.Eq.{bytes_eq-Decides}
+use Rattle.std.proofs.lemmas.List.{map-append}
+use Rattle.ely_cred.specs.Keys.{Ready}
 use Rattle.ely_row.specs.declared.edit.Edit.{Edit}
 use Rattle.ely_row.specs.declared.mech.Mech.{Mech}
 use Rattle.ely_row.specs.Dependence.{touches}
 use Rattle.ely_cache.specs.declared.caches.RealmCache.{RealmCache}
 use Rattle.ely_cache.specs.declared.entry.Entry.{Entry}
-use Rattle.ely_cache.specs.Caches.{at_cache, cache_of, untouched_in}
-use Rattle.ely_cache.specs.Entries.{promoted, offered, untouched}
+use Rattle.ely_cache.specs.Caches.{at_cache, cache_of, kept_for, untouched_in}
+use Rattle.ely_cache.specs.Codes.{key_of}
+use Rattle.ely_cache.specs.Entries.{entry_of, promoted, offered, untouched}
+use Rattle.ely_cache.proofs.EachEntries.{each-added, each-at_offered, each-at_promoted, each-kept}
+use Rattle.ely_script.specs.declared.word.CacheWord.{CacheWord}
+use Rattle.ely_script.specs.declared.word.CacheWord.TheVariants as words
 use Rattle.ely_domain.specs.Caches.{AreCurrent, IsCurrent, key_in, keys_in, lists_of, place_in}
+use Rattle.ely_pipeline.specs.declared.place.Place.{Place}
 use Rattle.ely_domain.specs.Identities.{Known, deps, key_at}
-use Rattle.ely_domain.specs.KeptKeys.{Key, RealmKeys, at_realm, dropped, filled, list_of, used, with_keys, untouched as untouched_keys}
+use Rattle.ely_domain.specs.KeptKeys.{Key, RealmKeys, at_realm, dropped, filled, list_of, used, with_keys, word_in, untouched as untouched_keys}
 use Rattle.ely_domain.specs.Plans.{deps_in}
-use Rattle.ely_domain.proofs.KeyLists.{code_of, keys_promoted, keys_offered}
+use Rattle.ely_domain.proofs.KeyLists.{code_of, has_entry, keys_promoted, keys_offered}
 use Rattle.ely_domain.proofs.Touching.{key_kept}
 
 -- the list of a realm is that of its cache
@@ -49,6 +56,58 @@ lists_used r key caches = lists_at r (λ limit. promoted (code_of key)) (λ limi
 pub lists_filled : (r : List ℕ) (e : Entry) (caches : List RealmCache)
     → lists_of (at_cache r (λ limit. offered limit e) caches) ≡ at_realm r (λ limit. filled limit (key_in e)) (lists_of caches)
 lists_filled r e caches = lists_at r (λ limit. offered limit e) (λ limit. filled limit (key_in e)) (λ limit es. keys_offered limit e es) caches
+
+-- ---- what is found
+
+-- the word of what is kept
+abbrev pub word_found : Option (Option Ready) → CacheWord
+word_found None = words.Dash
+word_found (Some None) = words.Miss
+word_found (Some (Some ready)) = words.Hit
+
+pub word_is : (caches : List RealmCache) (r name : List ℕ) (mech : Mech)
+    → word_found (kept_for caches r (key_of name mech)) ≡ word_in (list_of (lists_of caches) r) (record { name = name; mech = mech })
+word_is caches r name mech = by (cache_of caches r) ∙ ap (λ l. word_in l (record { name = name; mech = mech })) (sym (list_is caches r))
+  where
+    by_entry : (entry : Option Entry) → word_found (Some (option_map (λ (e : Entry). e.ready) entry)) ≡ cond (is_some entry) words.Hit words.Miss
+    by_entry None = refl
+    by_entry (Some e) = refl
+
+    by : (found : Option RealmCache)
+        → word_found (option_map (λ (c : RealmCache). option_map (λ (e : Entry). e.ready) (entry_of (key_of name mech) c.cache.entries)) found)
+        ≡ word_in (option_map keys_in found) (record { name = name; mech = mech })
+    by None = refl
+    by (Some c) =
+        by_entry (entry_of (key_of name mech) c.cache.entries)
+        ∙ ap (λ b. cond b words.Hit words.Miss) (sym (has_entry (record { name = name; mech = mech }) c.cache.entries))
+
+module _ (known : Known) (caches : List RealmCache) (are : AreCurrent known caches) where
+  -- a key that is found is the one of now
+  pub found_current : (place : Place) (mech : Mech) (ready : Ready) → kept_for caches place.realm (key_of place.name mech) ≡ Some (Some ready)
+      → key_at known mech (length known.edits) place ≡ Some ready
+  found_current place mech ready kept =
+      let found = each-kept (IsCurrent known) caches place.realm place.name mech ready are kept in
+      subst (λ (n : List ℕ). key_at known mech (length known.edits) (place_in place.realm n) ≡ Some ready) found.2
+      (subst (λ (m : Mech). key_at known m (length known.edits) (place_in place.realm found.0.name) ≡ Some ready) found.3 (found.1.ready_is ∙ ap Some found.4))
+
+  -- the entries stay of now where one is used, and where one of now is added
+  pub used_current : (r code : List ℕ) → AreCurrent known (at_cache r (λ limit. promoted code) caches)
+  used_current r code = each-at_promoted (IsCurrent known) r code caches are
+
+  pub filled_current : (place : Place) (mech : Mech) (ready : Ready) (places : List (List ℕ × List ℕ)) → places ≡ deps known place
+      → key_at known mech (length known.edits) place ≡ Some ready
+      → AreCurrent known (at_cache place.realm (λ limit. offered limit (record { name = place.name; mech = mech; ready = ready; deps = places })) caches)
+  filled_current place mech ready places rests key =
+      each-at_offered (IsCurrent known) place.realm (record { name = place.name; mech = mech; ready = ready; deps = places })
+      (λ r here. subst (λ (s : List ℕ). IsCurrent known s (record { name = place.name; mech = mech; ready = ready; deps = places }))
+      (sym ((bytes_eq-Decides r place.realm).0 here)) (record { deps_are = rests; ready_is = key })) caches are
+
+  -- an empty cache is added
+  pub added_current : (c : RealmCache) → c.cache.entries ≡ [] → AreCurrent known (caches ++ c ∷ [])
+  added_current c none = each-added (IsCurrent known) caches c none are
+
+pub lists_added : (caches : List RealmCache) (c : RealmCache) → lists_of (caches ++ c ∷ []) ≡ lists_of caches ++ keys_in c ∷ []
+lists_added caches c = map-append keys_in caches (c ∷ [])
 
 -- ---- an edit
 

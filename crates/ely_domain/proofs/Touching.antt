@@ -10,7 +10,7 @@ use Rattle.ely_table.specs.Faults.{texts_of}
 use Rattle.ely_table.specs.Touching.{touched_since}
 use Rattle.ely_aggregate.specs.declared.plan.RealmPlan.{RealmPlan}
 use Rattle.ely_aggregate.specs.Plans.{identity_of}
-use Rattle.ely_aggregate.proofs.Agreement.{identity_untouched, identity_since}
+use Rattle.ely_aggregate.proofs.Agreement.{identity_of-untouched, identity_of-since}
 use Rattle.ely_pipeline.specs.declared.place.Place.{Place}
 use Rattle.ely_domain.specs.Given.{Given, realms}
 use Rattle.ely_domain.specs.Identities.{Known, identity_after, ident, key_at, deps}
@@ -26,7 +26,7 @@ module _ (given : Given) (r name : List ℕ) where
           → option_and_then (λ p. identity_of (row (texts_of (realms given)) (edits ++ edit ∷ [])) p name) plan
           ≡ option_and_then (λ p. identity_of (row (texts_of (realms given)) edits) p name) plan
       by_plan None h = refl
-      by_plan (Some plan) h = identity_untouched (texts_of (realms given)) edits edit plan name h
+      by_plan (Some plan) h = identity_of-untouched (texts_of (realms given)) edits edit plan name h
 
   pub identity_since_then : (edits : List Edit) (v : ℕ) → touched_since edits v (deps_in given.config.realms r name) ≡ false
       → identity_after given edits r name ≡ identity_after given (take v edits) r name
@@ -37,7 +37,7 @@ module _ (given : Given) (r name : List ℕ) where
           → option_and_then (λ p. identity_of (row (texts_of (realms given)) edits) p name) plan
           ≡ option_and_then (λ p. identity_of (row (texts_of (realms given)) (take v edits)) p name) plan
       by_plan None h = refl
-      by_plan (Some plan) h = identity_since (texts_of (realms given)) edits v plan name h
+      by_plan (Some plan) h = identity_of-since (texts_of (realms given)) edits v plan name h
 
 module _ (known : Known) (mech : Mech) (place : Place) where
   -- the key of now is what the identity of now gives
