@@ -26,6 +26,10 @@ use Rattle.ely_domain.specs.Plans.{deps_in}
 use Rattle.ely_domain.proofs.KeyLists.{code_of, has_entry, keys_promoted, keys_offered}
 use Rattle.ely_domain.proofs.Touching.{key_kept}
 
+-- an entry of its parts
+abbrev pub entry : List ℕ → Mech → Ready → List (List ℕ × List ℕ) → Entry
+entry name mech ready places = record { name = name; mech = mech; ready = ready; deps = places }
+
 -- the list of a realm is that of its cache
 pub list_is : (caches : List RealmCache) (r : List ℕ) → list_of (lists_of caches) r ≡ option_map keys_in (cache_of caches r)
 list_is [] r = refl
@@ -135,20 +139,21 @@ module _ (known : Known) (edit : Edit) where
   current_stays [] are = tt
   current_stays (c ∷ cs) are = (entries_stay c.realm c.cache.entries are.0, current_stays cs are.1)
 
+  -- a key before others, where its entry isn't touched
+  abbrev left : Bool → Entry → List Key → List Key
+  left touched e keys = cond (not touched) (key_in e ∷ keys) keys
+
   keys_stay : (r : List ℕ) (es : List Entry) → AllByRecursion (IsCurrent known r) es
       → map key_in (untouched edit es) ≡ untouched_keys known.given.config.realms r edit (map key_in es)
   keys_stay r [] are = refl
   keys_stay r (e ∷ es) are =
-      by_test (touches edit e.deps) (keys_stay r es are.1)
-      ∙ ap (λ places. cond (not (touches edit places)) (key_in e ∷ rest) rest) are.0.deps_are
+      by_test (touches edit e.deps) (untouched_keys known.given.config.realms r edit (map key_in es)) (keys_stay r es are.1)
+      ∙ ap (λ places. left (touches edit places) e (untouched_keys known.given.config.realms r edit (map key_in es))) are.0.deps_are
     where
-      abbrev rest : List Key
-      rest = untouched_keys known.given.config.realms r edit (map key_in es)
-
-      by_test : (b : Bool) → map key_in (untouched edit es) ≡ rest
-          → map key_in (cond (not b) (e ∷ untouched edit es) (untouched edit es)) ≡ cond (not b) (key_in e ∷ rest) rest
-      by_test true later = later
-      by_test false later = ap (λ ks. key_in e ∷ ks) later
+      by_test : (b : Bool) (rest : List Key) → map key_in (untouched edit es) ≡ rest
+          → map key_in (cond (not b) (e ∷ untouched edit es) (untouched edit es)) ≡ left b e rest
+      by_test true rest later = later
+      by_test false rest later = ap (λ ks. key_in e ∷ ks) later
 
   -- the keys that are left are those that the edit doesn't touch
   pub lists_dropped : (caches : List RealmCache) → AreCurrent known caches

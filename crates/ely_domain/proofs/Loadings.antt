@@ -25,7 +25,7 @@ use Rattle.ely_config.specs.declared.fault.RealmFault.TheVariants as realm_fault
 use Rattle.ely_config.specs.Realms.{read_fault, kind_fault, is_named, realms_fault, AreSound}
 use Rattle.ely_config.proofs.RealmLemmas.{at_none, none_parts, passed, taken_parts, taken_at, apart_from}
 use Rattle.ely_domain.specs.Given.{class_by, classed, loading, loadings}
-use Rattle.ely_domain.specs.KeptKeys.{is_cache_sized}
+use Rattle.ely_domain.specs.KeptKeys.{first_list, first_lists, is_cache_sized}
 
 none_is : {A : Type 0} {x : A} → ◌≡◌ {A = Option A} None (Some x) → ⊥
 none_is h = cc
@@ -159,6 +159,10 @@ module _ (digest_realm : List ℕ) where
     pub loaded_next : (edit : Edit) → loading realm.name realm.kind ≡ Some edit
         → loadings (take at realms) ++ edit ∷ [] ≡ loadings (take (at + 1) realms)
     loaded_next edit load = sym (ap loadings one_more ∙ loadings_push (take at realms) realm edit load)
+
+    -- with a caching realm comes an empty list
+    pub lists_next : first_lists (take at realms) ++ cons_option (first_list realm.name realm.kind) [] ≡ first_lists (take (at + 1) realms)
+    lists_next = sym (ap first_lists one_more ∙ filter_map-append (λ (r : RealmConfig). first_list r.name r.kind) (take at realms) (realm ∷ []))
 
     pub same_next : loading realm.name realm.kind ≡ None → loadings (take at realms) ≡ loadings (take (at + 1) realms)
     same_next load = sym (ap loadings one_more ∙ loadings_same (take at realms) realm load)

@@ -18,14 +18,14 @@ abbrev pub plan_in : List Plan → List ℕ → Option Plan
 plan_in plans r = find (λ plan. bytes_eq plan.0 r) plans
 
 module _ (all : List RealmConfig) where
+  abbrev of : RealmConfig → Option RealmPlan
+  of realm = plan_by all realm.name realm.kind
+
   found_by : (realms : List RealmConfig) (r : List ℕ)
       → option_and_then (λ realm. plan_by all realm.name realm.kind) (realm_named realms r) ≡ option_and_then (λ plan. plan.1) (plan_in (plans_of all realms) r)
   found_by [] r = refl
   found_by (realm ∷ realms) r = by_test (found_by realms r) (bytes_eq realm.name r)
     where
-      abbrev of : RealmConfig → Option RealmPlan
-      of realm = plan_by all realm.name realm.kind
-
       by_test : option_and_then of (realm_named realms r) ≡ option_and_then (λ (plan : Plan). plan.1) (plan_in (plans_of all realms) r) → (b : Bool)
           → option_and_then of (cond b (Some realm) (realm_named realms r))
           ≡ option_and_then (λ (plan : Plan). plan.1) (cond b (Some (realm.name, of realm)) (plan_in (plans_of all realms) r))

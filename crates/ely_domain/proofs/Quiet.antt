@@ -1,7 +1,9 @@
 -- Steps of a login that are no naming: they show no word, leave the lists, and no login is loading that wasn't.
-use Rattle.std.proofs.Common.{◌≡◌, ℕ, Bool, true, false, cond, List, Option, Some, None, refl, sym, ap, ◌∙◌}
+use Rattle.std.proofs.Common.{◌≡◌, ℕ, Bool, true, false, cond, List, Option, Some, None, Result, Ok, Err, refl, sym, ap, ◌∙◌}
+use Rattle.std.specs.Prelude.{IfOk, IsOk, OnErr}
 use Rattle.ely_row.specs.declared.mech.Mech.{Mech}
 use Rattle.ely_digest.specs.Nonces.{Nonces}
+use Rattle.ely_script.specs.declared.claim.Claim.{Claim}
 use Rattle.ely_script.specs.declared.claim.Evidence.{Evidence}
 use Rattle.ely_script.specs.declared.outcome.Outcome.{Outcome}
 use Rattle.ely_script.specs.declared.outcome.Outcome.TheVariants as outcomes
@@ -16,12 +18,14 @@ use Rattle.ely_context.specs.Contexts.{ContextStage, ContextLogin}
 use Rattle.ely_context.specs.Stages.{at_stage, state_of}
 use Rattle.ely_domain.specs.declared.event.Event.{Event}
 use Rattle.ely_domain.specs.declared.event.Event.TheVariants as events
-use Rattle.ely_domain.specs.Caches.{Keeps, KeepsBy, found_after, found_by_stage, found_in, lists_of}
-use Rattle.ely_domain.specs.Contexts.{IsReply, seen_login}
-use Rattle.ely_domain.specs.Identities.{Known, grants, to_log_in}
+use Rattle.ely_domain.specs.Caches.{Keeps, KeepsBy, found_after, found_by_stage, found_in, lists_of, without_word}
+use Rattle.ely_domain.specs.Contexts.{IsReply, pinned, seen_login}
+use Rattle.ely_domain.specs.Domains.{IsLoginStep, IsQuietStep}
+use Rattle.ely_domain.specs.Identities.{Known, grants, key_at, to_log_in}
 use Rattle.ely_domain.specs.Keeping.{Meaning, Nothing}
 use Rattle.ely_domain.specs.KeptKeys.{RealmKeys}
 use Rattle.ely_domain.specs.Logins.{KnownStage, KnownLogin}
+use Rattle.ely_domain.specs.Verdicts.{exchange, verdict}
 use Rattle.ely_domain.specs.Steps.{Reply, NotDue, Stays, Moves, is_evidence_of, not_due, reply, shown_or, shown_refusal}
 
 -- a stage of a login that is loading
@@ -95,12 +99,13 @@ module _ (known : Known) (nonces : Nonces) (serial : ℕ) (mech : Mech) (nonce :
   check1_quiet c n evidence (Complete p) = tt
   check1_quiet c n evidence Failed = tt
 
-  over_either : (b : Bool) (yes no : KnownStage) → is_loading yes ≡ false → is_loading no ≡ false → is_loading (cond b yes no) ≡ false
-  over_either true yes no h k = h
-  over_either false yes no h k = k
+  over_either : (b : Bool) (one other : KnownStage) → is_loading one ≡ false → is_loading other ≡ false → is_loading (cond b one other) ≡ false
+  over_either true one other h k = h
+  over_either false one other h k = k
 
   check2_quiet : (c n : ℕ) (brought : Option Done) (stage : ContextStage) → Quiet (events.Check2 c n brought) stage
-  check2_quiet c n brought (Checking p key shown) = (over_either _ _ _ refl refl, refl, λ h. refl)
+  check2_quiet c n brought (Checking p key shown) =
+      (over_either (is_accepted (verdict (exchange known.given nonce p.claim) (key_at known mech p.version p.place) shown)) (Proved (pinned p)) Failed refl refl, refl, λ h. refl)
   check2_quiet c n brought Fresh = tt
   check2_quiet c n brought (Loading p) = tt
   check2_quiet c n brought (Named p key) = tt
@@ -110,7 +115,7 @@ module _ (known : Known) (nonces : Nonces) (serial : ℕ) (mech : Mech) (nonce :
   check2_quiet c n brought Failed = tt
 
   authorize_quiet : (c : ℕ) (stage : ContextStage) → Quiet (events.Authorize c) stage
-  authorize_quiet c (Proved p) = (over_either _ _ _ refl refl, refl, λ h. refl)
+  authorize_quiet c (Proved p) = (over_either (grants known p.version p.place to_log_in) (Authorized (pinned p)) (Proved (pinned p)) refl refl, refl, λ h. refl)
   authorize_quiet c Fresh = tt
   authorize_quiet c (Loading p) = tt
   authorize_quiet c (Named p key) = tt
@@ -188,3 +193,56 @@ module _ (known : Known) (nonces : Nonces) (old new : ContextLogin) (outcome : O
   fail_keeps c is =
       quiet_keeps known (events.Fail c) (lists_of caches) old new outcome _ _ (λ state. refl) is
       (fail_quiet known nonces old.serial old.mech old.nonce c old.stage)
+
+-- the same of each of these events
+module _ (known : Known) (nonces : Nonces) (old new : ContextLogin) (caches : List RealmCache) where
+  event_keeps : (event : Event) (outcome : Outcome) → IsQuietStep event → IsReply (reply known nonces (seen_login old) event) (not_due event) old outcome new
+      → Keeps known event outcome words.None caches caches old new
+  event_keeps (events.Check1 c n evidence) outcome due is = check1_keeps known nonces old new outcome caches c n evidence is
+  event_keeps (events.Check2 c n brought) outcome due is = check2_keeps known nonces old new outcome caches c n brought is
+  event_keeps (events.Authorize c) outcome due is = authorize_keeps known nonces old new outcome caches c is
+  event_keeps (events.Allows c wanted) outcome due is = allows_keeps known nonces old new outcome caches c wanted is
+  event_keeps (events.Succeed c) outcome due is = succeed_keeps known nonces old new outcome caches c is
+  event_keeps (events.Fail c) outcome due is = fail_keeps known nonces old new outcome caches c is
+  event_keeps (events.Name1 c claim) outcome due is = absurd due
+  event_keeps (events.Name2 c n brought) outcome due is = absurd due
+  event_keeps (events.Bad bad) outcome due is = absurd due
+  event_keeps (events.Change edit) outcome due is = absurd due
+  event_keeps (events.Begin c mech brought) outcome due is = absurd due
+  event_keeps (events.Close c) outcome due is = absurd due
+
+  pub quiet_all : {E : Type 0} (event : Event) (answer : Result Outcome E) → IsQuietStep event
+      → IfOk answer (λ outcome. IsReply (reply known nonces (seen_login old) event) (not_due event) old outcome new)
+      → IfOk (without_word answer) (λ said. Keeps known event said.0 said.1 caches caches old new)
+  quiet_all event (Ok outcome) due is = event_keeps event outcome due is
+  quiet_all event (Err e) due is = is
+
+-- a step of a login that is neither half of a naming is such a step
+pub quiet_due : (event : Event) → IsLoginStep event → ((c : ℕ) (claim : Claim) → event ≡ events.Name1 c claim → ⊥)
+    → ((c n : ℕ) (brought : Option Done) → event ≡ events.Name2 c n brought → ⊥) → IsQuietStep event
+quiet_due (events.Name1 c claim) due first second = absurd (first c claim refl)
+quiet_due (events.Name2 c n brought) due first second = absurd (second c n brought refl)
+quiet_due (events.Check1 c n evidence) due first second = due
+quiet_due (events.Check2 c n brought) due first second = due
+quiet_due (events.Authorize c) due first second = due
+quiet_due (events.Allows c wanted) due first second = due
+quiet_due (events.Succeed c) due first second = due
+quiet_due (events.Fail c) due first second = due
+quiet_due (events.Bad bad) due first second = due
+quiet_due (events.Change edit) due first second = due
+quiet_due (events.Begin c mech brought) due first second = due
+quiet_due (events.Close c) due first second = due
+
+-- ---- an answer with no word behind it says what the answer says
+
+pub word_ok : {E : Type 0} (answer : Result Outcome E) (P : Outcome → Type 0) → IfOk answer P → IfOk (without_word answer) (λ said. P said.0)
+word_ok (Ok outcome) P holds = holds
+word_ok (Err e) P holds = holds
+
+pub word_err : {E : Type 0} (A B C D : Type 0) (answer : Result Outcome E) → D → OnErr answer (A × B × C) → OnErr (without_word answer) (A × B × C × D)
+word_err A B C D (Ok outcome) d same = same
+word_err A B C D (Err e) d same = (same.0, same.1, same.2, d)
+
+pub word_is_ok : {E : Type 0} (answer : Result Outcome E) → IsOk answer → IsOk (without_word answer)
+word_is_ok (Ok outcome) is = is
+word_is_ok (Err e) is = is

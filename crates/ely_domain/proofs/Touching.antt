@@ -6,12 +6,14 @@ use Rattle.ely_row.specs.declared.mech.Mech.{Mech}
 use Rattle.ely_row.specs.Dependence.{touches}
 use Rattle.ely_row.specs.Edits.{row}
 use Rattle.ely_cred.specs.Keys.{ready_of}
-use Rattle.ely_table.specs.Faults.{texts_of}
+use Rattle.ely_config.specs.Configs.{Config}
+use Rattle.ely_table.specs.Faults.{Tables, texts_of}
 use Rattle.ely_table.specs.Touching.{touched_since}
 use Rattle.ely_aggregate.specs.declared.plan.RealmPlan.{RealmPlan}
 use Rattle.ely_aggregate.specs.Plans.{identity_of}
 use Rattle.ely_aggregate.proofs.Agreement.{identity_of-untouched, identity_of-since}
 use Rattle.ely_pipeline.specs.declared.place.Place.{Place}
+use Rattle.ely_domain.specs.Contexts.{AreOf, read_of}
 use Rattle.ely_domain.specs.Given.{Given, realms}
 use Rattle.ely_domain.specs.Identities.{Known, identity_after, ident, key_at, deps}
 use Rattle.ely_domain.specs.Plans.{plan_of, deps_by, deps_in}
@@ -67,3 +69,14 @@ module _ (known : Known) (mech : Mech) (place : Place) where
       (take_all (length more.edits) more.edits (omega arith))
       ∙ ap (option_and_then (ready_of known.given.config.params place.realm place.name mech)) (identity_kept known.given place.realm place.name known.edits edit none)
       ∙ sym key_now
+
+-- ---- what the tables have
+
+-- the identity that a plan gives over the tables is the identity of now
+pub now_is : (config : Config) (tables : Tables) (place : Place) (plan : RealmPlan) → AreOf config tables → Some plan ≡ plan_of config.realms place.realm
+    → identity_of (λ r n. row (texts_of tables.realms) tables.journal r n) plan place.name ≡ ident (read_of config tables) (length tables.journal) place
+unfolding identity_after
+now_is config tables place plan are is =
+    ap (λ realms. identity_of (row (texts_of realms) tables.journal) plan place.name) are
+    ∙ ap (λ edits. identity_of (row (texts_of (realms (read_of config tables).given)) edits) plan place.name) (sym (take_all (length tables.journal) tables.journal (omega arith)))
+    ∙ ap (option_and_then (λ p. identity_of (row (texts_of (realms (read_of config tables).given)) (take (length tables.journal) tables.journal)) p place.name)) is

@@ -1,5 +1,5 @@
 -- The jobs of logins: which one a login at a stage has.
-use Rattle.std.proofs.Common.{is_some, ◌≡◌, ℕ, Bool, true, false, cond, List, Option, Some, None, refl, sym, ap, subst, ◌∙◌, arith}
+use Rattle.std.proofs.Common.{is_some, ◌≡◌, ℕ, Bool, true, false, cond, List, length, Option, Some, None, Ok, refl, sym, ap, subst, ◌∙◌, arith}
 use Rattle.std.specs.Prelude.{IfSome, IsSome, option_and_then, nat_eq}
 use Rattle.std.specs.Option.{option_map}
 use Rattle.std.proofs.lemmas.Option.{same_Some}
@@ -13,20 +13,25 @@ use Rattle.ely_context.specs.declared.naming.Naming.{Naming}
 use Rattle.ely_context.specs.declared.pin.Pin.{Pin}
 use Rattle.ely_context.specs.declared.stage.Stage.TheVariants.{Fresh, Loading, Named, Checking, Proved, Authorized, Complete, Failed}
 use Rattle.ely_context.specs.Contexts.{ContextStage, ContextLogin}
-use Rattle.ely_context.specs.Stages.{loading_pin, named_parts, checked_parts}
+use Rattle.ely_context.specs.Stages.{loading_pin, named_parts, checked_parts, stage_view, state_of}
+use Rattle.ely_script.specs.declared.claim.Claim.{Claim}
+use Rattle.ely_script.specs.declared.word.CacheWord.{CacheWord}
+use Rattle.ely_script.specs.declared.word.StateWord.TheVariants as states
+use Rattle.ely_domain.specs.declared.naming.Found.{Found}
 use Rattle.ely_context.specs.Logins.{login_of}
 use Rattle.ely_context.proofs.LoginLemmas.{login_of-each_login}
 use Rattle.ely_digest.specs.Nonces.{Nonces}
 use Rattle.ely_domain.specs.Caches.{found_by_stage, found_in, founds_of}
-use Rattle.ely_domain.specs.Contexts.{IsKey, HoldsIts, seen_login, seen_live}
+use Rattle.ely_domain.specs.Contexts.{Finds, IsKey, HoldsIts, pinned, seen_login, seen_live}
 use Rattle.ely_domain.specs.Costs.{RoseBy, naming_cost}
 use Rattle.ely_domain.specs.declared.event.Event.{Event}
 use Rattle.ely_domain.specs.declared.event.Event.TheVariants as events
-use Rattle.ely_domain.specs.Identities.{Known, key_at}
+use Rattle.ely_domain.specs.Identities.{Known, ident, key_at}
+use Rattle.ely_domain.specs.Logins.{KnownLogin}
 use Rattle.ely_domain.specs.Keeping.{found_at}
-use Rattle.ely_domain.specs.KeptKeys.{RealmKeys, is_hit}
+use Rattle.ely_domain.specs.KeptKeys.{RealmKeys, is_hit, list_of, word_in}
 use Rattle.ely_domain.specs.Jobs.{check_job, job_at, job_with, job_of, IsBrought, BringsTo, Brings}
-use Rattle.ely_domain.specs.Handing.{check1_job, job_by, job_ahead}
+use Rattle.ely_domain.specs.Handing.{name1_job, check1_job, job_by, job_ahead}
 use Rattle.ely_domain.specs.Lines.{carrier}
 use Rattle.ely_domain.specs.Steps.{is_evidence_of, shown_refusal}
 use Rattle.ely_domain.specs.Verdicts.{exchange, server_first}
@@ -91,6 +96,20 @@ module _ (known : Known) (serial : ℕ) (mech : Mech) (nonce : List ℕ) where
   held_key (Authorized q) p is holds = absurd cc
   held_key (Complete q) p is holds = absurd cc
   held_key Failed p is holds = absurd cc
+
+  -- what a loading login's key is derived to is the key of the pinned version
+  pub loading_key : (stage : ContextStage) (p : Pin) (ready : Ready) → loading_pin stage ≡ Some p → HoldsIts known mech nonce stage
+      → Some ready ≡ ready_of known.given.config.params p.place.realm p.place.name mech p.row → key_at known mech p.version p.place ≡ Some ready
+  loading_key (Loading q) p ready is holds made =
+      let same : q ≡ p = same_Some _ _ is in
+      subst (λ (x : Pin). key_at known mech x.version x.place ≡ Some ready) same (key_of_row known mech q.version q.place q.row holds.row_is ∙ sym (rw (← same) at made))
+  loading_key Fresh p ready is holds made = absurd cc
+  loading_key (Named q key) p ready is holds made = absurd cc
+  loading_key (Checking q key evidence) p ready is holds made = absurd cc
+  loading_key (Proved q) p ready is holds made = absurd cc
+  loading_key (Authorized q) p ready is holds made = absurd cc
+  loading_key (Complete q) p ready is holds made = absurd cc
+  loading_key Failed p ready is holds made = absurd cc
 
   -- the job of a checked login
   pub checking_job : (stage : ContextStage) (p : Pin) (key : Naming) (evidence : Evidence) → checked_parts stage ≡ Some (p, key, evidence)
@@ -273,3 +292,31 @@ module _ (known : Known) (logins : List (ℕ × ContextLogin)) (nonces : Nonces)
   ahead_found lists event login is found =
       sym (ap (option_and_then (λ c. option_and_then (job_by known lists nonces event) (login_of (seen_live logins nonces).logins c))) (sym is)
       ∙ ap (option_and_then (job_by known lists nonces event)) (login_of-each_login seen_login logins id ∙ ap (option_map seen_login) (sym found)))
+
+-- a login in the state fresh is at that stage
+pub fresh_at : (stage : ContextStage) → states.Fresh ≡ state_of stage → stage ≡ Fresh
+fresh_at Fresh is = refl
+fresh_at (Loading p) is = absurd cc
+fresh_at (Named p key) is = absurd cc
+fresh_at (Checking p key evidence) is = absurd cc
+fresh_at (Proved p) is = absurd cc
+fresh_at (Authorized p) is = absurd cc
+fresh_at (Complete p) is = absurd cc
+fresh_at Failed is = absurd cc
+
+-- the job that a fresh login has behind its naming: the key that is found, or the derivation of it
+module _ (known : Known) (lists : List RealmKeys) (login : KnownLogin) (claim : Claim) (found : Found) (job : Work) where
+  abbrev its_word : CacheWord
+  its_word = word_in (list_of lists found.place.realm) (record { name = found.place.name; mech = login.mech })
+
+  pub named_ahead : {stage : ContextStage} → stage ≡ Fresh → Finds known login.mech claim (Ok found)
+      → (is_hit its_word ≡ true → Some job ≡ option_map works.Held (key_at known login.mech (length known.edits) found.place))
+      → (is_hit its_word ≡ false → job ≡ works.Derive found.place found.row login.mech known.given.config.params)
+      → Some job ≡ name1_job known lists login claim (stage_view pinned (λ key. tt) stage)
+  named_ahead fresh finds hit derived = rw (fresh, finds.0) (by (is_hit its_word) refl)
+    where
+      by : (b : Bool) → is_hit its_word ≡ b
+          → Some job ≡ cond b (option_map works.Held (key_at known login.mech (length known.edits) found.place))
+          (option_map (λ row. works.Derive found.place row login.mech known.given.config.params) (ident known (length known.edits) found.place))
+      by true e = hit e
+      by false e = rw finds.1 (ap Some (derived e))

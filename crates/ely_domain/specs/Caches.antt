@@ -1,5 +1,5 @@
 -- What the caches of a domain stand for, and what its type keeps of their entries.
-use Rattle.std.specs.Prelude.{ℕ, ◌≡◌, Bool, true, false, List, length, map, Option, Some}
+use Rattle.std.specs.Prelude.{ℕ, ◌≡◌, Bool, true, false, List, length, map, Option, Some, Result, Ok, Err}
 use Rattle.ely_cache.specs.declared.caches.RealmCache.{RealmCache}
 use Rattle.ely_cache.specs.declared.entry.Entry.{Entry}
 use Rattle.ely_cache.specs.Caches.{EachEntry}
@@ -64,6 +64,11 @@ found_after (events.Name1 c claim) shown found = shown
 found_after (events.Name2 c serial brought) shown found = words.None
 found_after (events.Fail c) shown found = words.None
 found_after _ shown found = found
+
+-- an answer with no word behind it
+abbrev pub without_word : {E : Type 0} → Result Outcome E → Result (Outcome × CacheWord) E
+without_word (Ok outcome) = Ok (outcome, words.None)
+without_word (Err e) = Err e
 
 -- a step of a login showed this word, and did with the lists and with what its naming found what an accepted or a refused one does
 abbrev pub KeepsBy : Bool → Known → Meaning → Event → CacheWord → List RealmKeys → List RealmKeys → CacheWord → CacheWord → Type 0

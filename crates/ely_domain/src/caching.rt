@@ -45,12 +45,12 @@ fn fill(
     place: &Place,
     mech: Mech,
     ready: &Ready,
-    deps: Deps,
+    rests: Deps,
 ) -> CacheWord
     ensures word { stands_for result ≡ CacheWord.Kept }
     ensures lists { lists_of caches.new ≡ fill_by result place.now.realm
         (record { name = place.now.name; mech = mech }) (lists_of caches.old) }
-    ensures current { (known : Known) → deps ≡ deps known place.now
+    ensures current { (known : Known) → rests ≡ deps known place.now
         → key_at known mech (length known.edits) place.now ≡ Some ready.now
         → AreCurrent known caches.old → AreCurrent known caches.new }
 {
@@ -60,7 +60,7 @@ fn fill(
     let Ok(ready) = ready.copy(alloc) else {
         return CacheWord::Unkept;
     };
-    match caches.offer(alloc, &place.realm, name, mech, ready, deps) {
+    match caches.offer(alloc, &place.realm, name, mech, ready, rests) {
         Offered::Kept => CacheWord::Kept,
         Offered::Unkept => CacheWord::Unkept,
     }

@@ -66,7 +66,7 @@ fn use_nonce(nonces: &mut NonceTable, evidence: &Evidence) -> Option<Outcome>
 }
 
 /// The state that a refusal tells beside what it hands back.
-fn told_state<E: Drop>(refusal: (StateWord, E)) -> StateWord
+pub(crate) fn told_state<E: Drop>(refusal: (StateWord, E)) -> StateWord
     ensures { result ≡ refusal.0 }
 {
     let (state, _) = refusal;

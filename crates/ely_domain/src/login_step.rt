@@ -2,10 +2,10 @@
 
 ghost use Rattle.std.specs.Prelude.{◌≡◌, ℕ, ◌==◌, false, true, IfOk, OnErr, IsOk, Some};
 ghost use Rattle.ely_context.specs.Logins.{login_of};
-ghost use Rattle.ely_domain.specs.Caches.{AreCurrent, Keeps, found_in, founds_of, kept_in};
+ghost use Rattle.ely_domain.specs.Caches.{AreCurrent, Keeps, found_in, founds_of, kept_in, without_word};
 ghost use Rattle.ely_domain.specs.Contexts.{Answers, AreOf, IsReply, IsSound, IsSoundAt, read_of, seen_live, seen_login};
 ghost use Rattle.ely_domain.specs.Costs.{RoseBy, cost_for, login_cost, reply_cost};
-ghost use Rattle.ely_domain.specs.Domains.{IsLoginStep, TakesNoMemory};
+ghost use Rattle.ely_domain.specs.Domains.{IsLoginStep, IsQuietStep, TakesNoMemory};
 ghost use Rattle.ely_domain.specs.Jobs.{BringsTo, Brings};
 ghost use Rattle.ely_domain.specs.Keeping.{word_on, kept_on};
 ghost use Rattle.ely_domain.specs.KeptKeys.{stands_for};
@@ -20,6 +20,7 @@ use crate::naming::{name1, name2};
 use crate::planned::Planned;
 use ely_base::{CtxId, NoMemory};
 use ely_cache::Caches;
+use ely_config::Config;
 use ely_context::{Context, Logins};
 use ely_digest::NonceTable;
 use ely_hash::Steps;
@@ -29,12 +30,56 @@ use ely_table::Tables;
 use std::alloc::Global;
 use std::sync::ledger::Ledger;
 
-/// An outcome that no word of keeping stands behind.
-fn no_word(outcome: Outcome) -> (Outcome, CacheWord)
-    ensures outcome { result.0 ≡ outcome }
-    ensures word { result.1 ≡ CacheWord.None }
+/// A step of a login that is no naming: it looks at no cache.
+fn quiet_step<L: Ledger>(
+    alloc: Global,
+    config: &Config,
+    tables: &Tables,
+    nonces: &mut NonceTable,
+    context: &mut Context,
+    handouts: &mut Handouts,
+    id: CtxId,
+    event: Event,
+    steps: &mut Steps<L>,
+) -> Result<Outcome, NoMemory>
+    requires due { IsQuietStep event }
+    requires sound { IsSoundAt (read_of config.now tables.now)
+        (login_of handouts.old id) context.old }
+    ensures reply { IfOk result (λ outcome. IsReply
+        (reply (read_of config.now tables.now) nonces.old (seen_login context.old) event)
+        (not_due event) context.old outcome context.new) }
+    ensures used { IfOk result (λ outcome. nonces.new ≡ used_by nonces.old event outcome) }
+    ensures sound { IsSoundAt (read_of config.now tables.now)
+        (login_of handouts.new id) context.new }
+    ensures others { (c : ℕ) → (c == id) ≡ false
+        → login_of handouts.new c ≡ login_of handouts.old c }
+    ensures err { OnErr result
+        ((nonces.new ≡ nonces.old) × (context.new ≡ context.old) × (handouts.new ≡ handouts.old)) }
+    ensures takes_no_memory { TakesNoMemory event → IsOk result }
+    ensures cost { RoseBy steps.old steps.new
+        (reply_cost (read_of config.now tables.now) (found_in context.old) (seen_login context.old) event) }
+    ensures brought { BringsTo (read_of config.now tables.now) (found_in context.old) (seen_login context.old) event
+        → steps.new ≡ steps.old }
 {
-    (outcome, CacheWord::None)
+    match event {
+        Event::Check1 { evidence, .. } => Ok(check1(nonces, context, evidence)),
+        Event::Check2 { done, .. } => Ok(check2(config, tables, context, done, steps)),
+        Event::Authorize { .. } => authorize(alloc, config, tables, context, handouts, id),
+        Event::Allows { wanted, .. } => allows(alloc, config, tables, context, &wanted),
+        Event::Succeed { .. } => Ok(succeed(config, tables, context, handouts, id)),
+        Event::Fail { .. } => Ok(fail(config, tables, context, handouts, id)),
+        _ => unreachable!(),
+    }
+}
+
+/// An answer that no word of keeping stands behind.
+fn no_word(answer: Result<Outcome, NoMemory>) -> Result<(Outcome, CacheWord), NoMemory>
+    ensures { result ≡ without_word answer }
+{
+    match answer {
+        Ok(outcome) => Ok((outcome, CacheWord::None)),
+        Err(NoMemory) => Err(NoMemory),
+    }
 }
 
 /// The step of a login that was found and has the serial that is carried.
@@ -75,26 +120,14 @@ fn move_login<L: Ledger>(
     ensures brought { BringsTo (read_of planned.now tables.now) (found_in context.old) (seen_login context.old) event
         → steps.new ≡ steps.old }
 {
-    let config = planned.config();
     match event {
         Event::Name1 { claim, .. } => name1(alloc, planned, tables, caches, context, claim),
         Event::Name2 { done, .. } => name2(alloc, planned, tables, caches, context, done, steps),
-        Event::Check1 { evidence, .. } => Ok(no_word(check1(nonces, context, evidence))),
-        Event::Check2 { done, .. } => Ok(no_word(check2(config, tables, context, done, steps))),
-        Event::Authorize { .. } => {
-            match authorize(alloc, config, tables, context, handouts, id) {
-                Ok(outcome) => Ok(no_word(outcome)),
-                Err(NoMemory) => Err(NoMemory),
-            }
-        }
-        Event::Allows { wanted, .. } => match allows(alloc, config, tables, context, &wanted) {
-            Ok(outcome) => Ok(no_word(outcome)),
-            Err(NoMemory) => Err(NoMemory),
-        },
-        Event::Succeed { .. } => Ok(no_word(succeed(config, tables, context, handouts, id))),
-        Event::Fail { .. } => Ok(no_word(fail(config, tables, context, handouts, id))),
-        Event::Bad { .. } | Event::Change { .. } | Event::Begin { .. } | Event::Close { .. } => {
-            unreachable!()
+        _ => {
+            let config = planned.config();
+            no_word(quiet_step(
+                alloc, config, tables, nonces, context, handouts, id, event, steps,
+            ))
         }
     }
 }
@@ -138,7 +171,7 @@ fn answer_found<L: Ledger>(
 {
     if !event.is_carried(context.serial()) {
         discard(event);
-        return Ok(no_word(Outcome::Gone));
+        return no_word(Ok(Outcome::Gone));
     }
     move_login(
         alloc, planned, tables, caches, nonces, context, handouts, id, event, steps,
@@ -187,7 +220,7 @@ pub(crate) fn login_step<L: Ledger>(
         None => {
             let outcome = event.not_there();
             discard(event);
-            Ok(no_word(outcome))
+            no_word(Ok(outcome))
         }
         Some(context) => {
             answer_found(

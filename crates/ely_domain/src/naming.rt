@@ -17,6 +17,7 @@ ghost use Rattle.ely_domain.specs.Verdicts.{exchange, server_first};
 ghost use Rattle.ely_domain.specs.declared.prepared.Prepared.{Prepared};
 
 use crate::caching::{look_up, settle};
+use crate::checking::told_state;
 use crate::planned::Planned;
 use ely_aggregate::assemble;
 use ely_base::{Bytes, Name, NoMemory, Refused};
@@ -184,8 +185,7 @@ fn pin_found(
         Outcome.State context.old said.0 context.new) }
     ensures keeps { (c : ℕ) → IfOk result (λ said. Keeps (read_of planned.now tables.now)
         (Event.Name1 c claim) said.0 said.1 caches.old caches.new context.old context.new) }
-    ensures sound { OnOk result ((prepared : Option Prepared)
-        → IsSoundAt (read_of planned.now tables.now) prepared context.new) }
+    ensures sound { StaysSound (read_of planned.now tables.now) context.old context.new }
     ensures current { AreCurrent (read_of planned.now tables.now) caches.new }
     ensures err { OnErr result ((context.new ≡ context.old) × (caches.new ≡ caches.old)) }
 {
@@ -203,7 +203,7 @@ fn pin_found(
     };
     match context.name1(pin) {
         Ok(()) => Ok((Outcome::Pinned(version), word)),
-        Err((state, _)) => Ok((Outcome::State(state), CacheWord::None)),
+        Err(refusal) => Ok((Outcome::State(told_state(refusal)), CacheWord::None)),
     }
 }
 

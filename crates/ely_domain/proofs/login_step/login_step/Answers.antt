@@ -10,7 +10,7 @@ answer_found-requires-clause-sound g c = c.requires.sound c.args.id c.in-Some.co
 
 pub returns-in-None-clause-answer : goal.returns-in-None-clause-answer
 returns-in-None-clause-answer g c =
-    rw (c.no_word.ensures.outcome, c.not_there-outcome.ensures) (none_answered (read_of c.args.planned.now c.args.tables.now) c.args.logins.now c.args.nonces.now c.args.event c.args.id c.in-None.ensures.value)
+    rw (c.no_word.ensures, c.not_there-outcome.ensures) (none_answered (read_of c.args.planned.now c.args.tables.now) c.args.logins.now c.args.nonces.now c.args.event c.args.id c.in-None.ensures.value)
 
 pub returns-in-Some-clause-answer : goal.returns-in-Some-clause-answer
 returns-in-Some-clause-answer g c =
@@ -25,7 +25,8 @@ returns-in-Some-clause-sound g c =
 
 pub returns-in-Some-clause-err : goal.returns-in-Some-clause-err
 returns-in-Some-clause-err g c =
-    kept_all c.answer_found.result c.args.logins.now c.args.nonces.now _ c.args.handouts.now _ c.args.id c.in-Some.context.now _
+    kept_all c.answer_found.result c.args.logins.now c.args.nonces.now c.answer_found.new.nonces c.args.handouts.now c.answer_found.new.handouts
+    c.args.caches.now c.answer_found.new.caches c.args.id c.in-Some.context.now c.answer_found.new.context
     c.in-Some.ensures.rise (sym c.in-Some.ensures.value) c.answer_found.ensures.err
 
 pub returns-in-Some-clause-cost : goal.returns-in-Some-clause-cost
@@ -40,20 +41,20 @@ returns-in-Some-clause-brought g c = λ brought.
 
 pub returns-in-None-clause-word : goal.returns-in-None-clause-word
 returns-in-None-clause-word g c =
-    rw (c.no_word.ensures.word, c.no_word.ensures.outcome, c.not_there-outcome.ensures)
+    rw (c.no_word.ensures, c.not_there-outcome.ensures)
     (word_of_none (read_of c.args.planned.now c.args.tables.now) c.args.logins.now c.args.nonces.now c.args.event c.args.id c.args.caches.now)
 
 pub returns-in-None-clause-kept : goal.returns-in-None-clause-kept
 returns-in-None-clause-kept g c =
-    rw (c.no_word.ensures.word, c.no_word.ensures.outcome, c.not_there-outcome.ensures)
+    rw (c.no_word.ensures, c.not_there-outcome.ensures)
     (kept_of_none (read_of c.args.planned.now c.args.tables.now) c.args.logins.now c.args.nonces.now c.args.event c.args.id c.args.caches.now)
 
 pub returns-in-Some-clause-word : goal.returns-in-Some-clause-word
 returns-in-Some-clause-word g c =
-    word_all (read_of c.args.planned.now c.args.tables.now) c.args.logins.now c.args.nonces.now c.args.event c.args.id c.args.caches.now _
-    c.in-Some.context.now _ c.answer_found.result c.in-Some.ensures.rise (sym c.in-Some.ensures.value) c.answer_found.ensures.keeps
+    word_all (read_of c.args.planned.now c.args.tables.now) c.args.logins.now c.args.nonces.now c.args.event c.args.id c.args.caches.now c.answer_found.new.caches
+    c.in-Some.context.now c.answer_found.new.context c.answer_found.result c.in-Some.ensures.rise (sym c.in-Some.ensures.value) c.answer_found.ensures.keeps
 
 pub returns-in-Some-clause-kept : goal.returns-in-Some-clause-kept
 returns-in-Some-clause-kept g c =
-    keeps_all (read_of c.args.planned.now c.args.tables.now) c.args.logins.now c.args.nonces.now c.args.event c.args.id c.args.caches.now _
-    c.in-Some.context.now _ c.answer_found.result c.in-Some.ensures.rise (sym c.in-Some.ensures.value) c.answer_found.ensures.keeps
+    keeps_all (read_of c.args.planned.now c.args.tables.now) c.args.logins.now c.args.nonces.now c.args.event c.args.id c.args.caches.now c.answer_found.new.caches
+    c.in-Some.context.now c.answer_found.new.context c.answer_found.result c.in-Some.ensures.rise (sym c.in-Some.ensures.value) c.answer_found.ensures.keeps
