@@ -1,7 +1,7 @@
 -- A write to the cache of a realm, at its place.
-use Rattle.std.proofs.Common.{◌≡◌, ℕ, zero, suc, ◌<◌, ◌≤◌, ◌+◌, Bool, true, false, cond, ltb, List, [], ◌∷◌, length, get_or, set, Option, Some, None, refl, sym, ap, ◌∙◌, ⊎_elim, arith, position}
+use Rattle.std.proofs.Common.{◌≡◌, ℕ, zero, suc, ◌<◌, ◌≤◌, Bool, true, false, cond, ltb, List, [], ◌∷◌, length, get_or, set, Option, Some, None, refl, sym, ap, ◌∙◌, ⊎_elim, arith, position}
 use Rattle.std.specs.Prelude.{find}
-use Rattle.std.specs.List.{position_or_len, slice_get}
+use Rattle.std.specs.List.{position_or_len}
 use Rattle.std.specs.Str.{bytes_eq}
 use Rattle.std.proofs.lemmas.Bool.{cases_lt, lt-ltb}
 use Rattle.std.proofs.lemmas.List.Folds.{find_at}
@@ -10,6 +10,7 @@ use Rattle.std.proofs.lemmas.Option.{slice_get_past}
 use Rattle.ely_cache.specs.declared.caches.RealmCache.{RealmCache}
 use Rattle.ely_cache.specs.declared.entry.Entry.{Entry}
 use Rattle.ely_cache.specs.Caches.{at_cache, cache_of, with_entries}
+use Rattle.ely_cache.specs.Entries.{Entries}
 
 none_past : (m n : ℕ) → ◌≡◌ {A = Option ℕ} None (cond (ltb m n) (Some m) None) → n ≤ m
 none_past m n h = ⊎_elim (λ (l : m < n). absurd (grind (arith, lt-ltb m n l))) (λ (l : n ≤ m). l) (cases_lt m n)
@@ -44,10 +45,12 @@ module _ (r : List ℕ) (change : ℕ → List Entry → List Entry) where
       rw first (ap (λ (ds : List RealmCache). c ∷ ds) (set_from cs at d new (omega arith) here (λ (k : ℕ) (h : k < at). before (suc k) (omega arith)) is))
 
   -- the cache of the realm is changed, and the others aren't
-  pub changed_at : (caches : List RealmCache) (at : ℕ) (d new : RealmCache)
-      → position (λ (c : RealmCache). bytes_eq c.realm r) caches ≡ Some at
-      → new ≡ with_entries (get_or caches at d) (change (get_or caches at d).cache.limit (get_or caches at d).cache.entries)
-      → set caches at new ≡ at_cache r change caches
-  changed_at caches at d new place is =
-      let first = position-Some (λ (c : RealmCache). bytes_eq c.realm r) caches at d place in
-      set_from caches at d new first.0 first.1 first.2 is
+  pub changed_at : (caches : List RealmCache) (at : ℕ) (old : RealmCache) (cache : Entries)
+      → position (λ (c : RealmCache). bytes_eq c.realm r) caches ≡ Some at → old ≡ get_or caches at old
+      → cache ≡ record { limit = old.cache.limit; entries = change old.cache.limit old.cache.entries }
+      → set caches at (record { realm = old.realm; cache = cache }) ≡ at_cache r change caches
+  changed_at caches at old cache place read is =
+      let first = position-Some (λ (c : RealmCache). bytes_eq c.realm r) caches at old place in
+      set_from caches at old (record { realm = old.realm; cache = cache }) first.0 first.1 first.2
+      (ap (λ (es : Entries). (let new : RealmCache = record { realm = old.realm; cache = es } in new)) is
+      ∙ ap (λ (c : RealmCache). with_entries c (change c.cache.limit c.cache.entries)) read)

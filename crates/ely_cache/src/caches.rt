@@ -61,37 +61,6 @@ fn place_of(caches: &[RealmCache], realm: &Name) -> Option<usize>
     caches.iter().position(|cache| cache.realm.is(realm))
 }
 
-/// Brings the entry of the name and the mechanism to the front in the realm's cache.
-fn use_in(caches: &mut [RealmCache], realm: &Name, name: &Name, mech: Mech)
-    ensures { caches.new ≡ at_cache realm.now (λ limit. promoted (key_of name.now mech)) caches.old }
-{
-    if let Some(at) = place_of(caches, realm) {
-        let found = &mut caches[at];
-        found.cache.find(name, mech);
-    }
-}
-
-/// Offers an entry to the realm's cache, where there is one.
-fn offer_in(
-    caches: &mut [RealmCache],
-    alloc: Global,
-    realm: &Name,
-    name: Name,
-    mech: Mech,
-    ready: Ready,
-    deps: Deps,
-) -> Offered
-    ensures kept { result ≡ Offered.Kept → caches.new ≡ at_cache realm.now (λ limit. offered limit
-        (record { name = name; mech = mech; ready = ready; deps = deps })) caches.old }
-    ensures unkept { result ≡ Offered.Unkept → caches.new ≡ caches.old }
-{
-    let Some(at) = place_of(caches, realm) else {
-        return Offered::Kept;
-    };
-    let found = &mut caches[at];
-    found.cache.offer(alloc, name, mech, ready, deps)
-}
-
 /// Drops the entries that the edit touches from each of the caches.
 fn drop_in(caches: &mut [RealmCache], edit: &Edit)
     ensures { caches.new ≡ map (untouched_in edit.now) caches.old }
@@ -139,9 +108,13 @@ impl Caches {
 
     /// Brings the entry of the name and the mechanism to the front in the realm's cache, where both are there.
     pub fn use_key(&mut self, realm: &Name, name: &Name, mech: Mech)
-        ensures { self.new ≡ at_cache realm.now (λ limit. promoted (key_of name.now mech)) self.old }
+        ensures { self.new ≡ at_cache realm.now
+            (λ limit. promoted (key_of name.now mech)) self.old }
     {
-        use_in(self.caches.as_mut_slice(), realm, name, mech);
+        if let Some(at) = place_of(self.caches.as_slice(), realm) {
+            let found = &mut self.caches[at];
+            found.cache.find(name, mech);
+        }
     }
 
     /// Offers an entry to the realm's cache. Where the realm has none, nothing is kept, and that is all right.
@@ -154,19 +127,16 @@ impl Caches {
         ready: Ready,
         deps: Deps,
     ) -> Offered
-        ensures kept { result ≡ Offered.Kept → self.new ≡ at_cache realm.now (λ limit. offered limit
-            (record { name = name; mech = mech; ready = ready; deps = deps })) self.old }
+        ensures kept { result ≡ Offered.Kept → self.new ≡ at_cache realm.now
+            (λ limit. offered limit (record { name = name; mech = mech; ready = ready; deps = deps }))
+            self.old }
         ensures unkept { result ≡ Offered.Unkept → self.new ≡ self.old }
     {
-        offer_in(
-            self.caches.as_mut_slice(),
-            alloc,
-            realm,
-            name,
-            mech,
-            ready,
-            deps,
-        )
+        let Some(at) = place_of(self.caches.as_slice(), realm) else {
+            return Offered::Kept;
+        };
+        let found = &mut self.caches[at];
+        found.cache.offer(alloc, name, mech, ready, deps)
     }
 
     /// Drops from all caches the entries that rest on a place that the edit touches. It takes no memory.

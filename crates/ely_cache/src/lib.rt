@@ -1,6 +1,7 @@
 //! A bounded cache of derived keys, by name and mechanism, in the order of their last use. An entry goes as soon as an edit
 //! touches a place that it rests on, or reloads its realm; a reverse index finds such entries without passing over the others.
-//! It stands on `ely_cred` and `ely_row`; `lru` orders the entries under small numbers, so that dropping takes no memory.
+//! `Caches` has one such cache for each caching realm. The crate stands on `ely_cred` and `ely_row`; `lru` orders the entries
+//! under small numbers, so that dropping takes no memory.
 #![tactic(auto)]
 
 mod cache;

@@ -31,24 +31,34 @@ fn row_of(alloc: Global) -> Result<Row, NoMemory> {
     row.with(1, cred)
 }
 
-fn counted_ready<L: Ledger>(blank: Blank, alloc: Global, user: &Name) -> Result<Ready, NoMemory>
+fn counted_ready<L: Ledger>(
+    blank: Blank,
+    alloc: Global,
+    user: &Name,
+    row: &Row,
+) -> Result<Ready, NoMemory>
     requires name { blank.name ≡ L.name }
     requires parts { blank.parts ≡ L.parts }
     requires some { 0 < blank.parts }
 {
     let mut steps = Steps::<L>::of(blank);
-    let row = row_of(alloc)?;
-    let realm = name(alloc, b"main")?;
-    let params = Params::plain(alloc);
-    match choose(&row, Mech::Plain) {
+    match choose(row, Mech::Plain) {
         None => Err(NoMemory),
-        Some(_) => derive::<L>(alloc, &realm, user, &row, Mech::Plain, &params, &mut steps),
+        Some(_) => derive::<L>(
+            alloc,
+            user,
+            user,
+            row,
+            Mech::Plain,
+            &Params::plain(alloc),
+            &mut steps,
+        ),
     }
 }
 
-/// The user's key.
+/// The user's key, in a realm of the user's name.
 fn ready(alloc: Global, user: &Name) -> Result<Ready, NoMemory> {
-    counted_ready::<Brand>(Blank::new(1), alloc, user)
+    counted_ready::<Brand>(Blank::new(1), alloc, user, &row_of(alloc)?)
 }
 
 /// Places, each a realm and a name there.
@@ -258,8 +268,13 @@ struct Turn<'a> {
     kept: &'a [u8],
 }
 
-/// Makes the call in the realm, where it is not an edit.
-fn turn(alloc: Global, caches: &mut Caches, realm: &[u8], call: &Call<'_>) -> Result<(), NoMemory> {
+/// Makes the call in the realm; an edit is of all realms.
+fn take_turn(
+    alloc: Global,
+    caches: &mut Caches,
+    realm: &[u8],
+    call: &Call<'_>,
+) -> Result<(), NoMemory> {
     let realm = name(alloc, realm)?;
     match call {
         Call::Offer(user, pairs) => {
@@ -297,7 +312,7 @@ fn turned(alloc: Global, turns: &[Turn]) -> Result<usize, NoMemory> {
     caches.add(alloc, name(alloc, b"one")?, 2)?;
     caches.add(alloc, name(alloc, b"two")?, 2)?;
     for (i, each) in turns.iter().enumerate() {
-        turn(alloc, &mut caches, each.realm, &each.call)?;
+        take_turn(alloc, &mut caches, each.realm, &each.call)?;
         if shown(alloc, &caches)?.as_slice() != each.kept {
             return Ok(i);
         }
