@@ -1,11 +1,13 @@
 -- The caches of all realms: their keys are the lists that are kept, and their entries are of now.
-use Rattle.std.proofs.Common.{◌≡◌, ℕ, Bool, true, false, cond, not, List, [], ◌∷◌, ◌++◌, map, length, Option, Some, None, refl, sym, ap, ap₂, subst, ◌∙◌}
-use Rattle.std.specs.Prelude.{filter, is_some}
+use Rattle.std.proofs.Common.{◌≡◌, ℕ, ◌+◌, ◌-◌, arith, Bool, true, false, cond, not, List, [], ◌∷◌, ◌++◌, map, length, Option, Some, None, refl, sym, ap, ap₂, subst, ◌∙◌}
+use Rattle.std.specs.Prelude.{filter, is_some, slice_get}
+use Rattle.std.proofs.lemmas.Option.{slice_get-get_or}
+use Rattle.std.proofs.Math.Seq.{get_or-append_seam}
 use Rattle.std.specs.List.{AllByRecursion}
 use Rattle.std.specs.Option.{option_map}
 use Rattle.std.specs.Str.{bytes_eq}
 use Rattle.std.proofs.lemmas.Slice.Eq.{bytes_eq-Decides}
-use Rattle.std.proofs.lemmas.List.{map-append}
+use Rattle.std.proofs.lemmas.List.{length-append, map-append}
 use Rattle.ely_cred.specs.Keys.{Ready}
 use Rattle.ely_row.specs.declared.edit.Edit.{Edit}
 use Rattle.ely_row.specs.declared.mech.Mech.{Mech}
@@ -162,3 +164,11 @@ module _ (known : Known) (edit : Edit) where
   lists_dropped (c ∷ cs) are =
       ap₂ (λ ks ls. (let l : RealmKeys = record { realm = c.realm; limit = c.cache.limit; keys = ks } in l) ∷ ls)
       (keys_stay c.realm c.cache.entries are.0) (lists_dropped cs are.1)
+
+-- the last of some edits
+pub last_is : (edits : List Edit) (edit : Edit) → slice_get (edits ++ edit ∷ []) (length (edits ++ edit ∷ []) - 1) ≡ Some edit
+last_is edits edit =
+    let count : length (edits ++ edit ∷ []) - 1 ≡ length edits = omega (arith, length-append edits (edit ∷ [])) in
+    subst (λ n. slice_get (edits ++ edit ∷ []) n ≡ Some edit) (sym count)
+    (slice_get-get_or (edits ++ edit ∷ []) (length edits) edit (omega (arith, length-append edits (edit ∷ [])))
+    ∙ ap Some (get_or-append_seam edits edit [] edit))

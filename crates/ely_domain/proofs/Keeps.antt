@@ -18,9 +18,9 @@ use Rattle.ely_domain.specs.declared.event.Event.TheVariants as events
 use Rattle.ely_domain.specs.Caches.{Keeps, KeepsBy, found_after, found_in, founds_of, kept_in, lists_of}
 use Rattle.ely_domain.specs.Contexts.{seen_live, seen_login}
 use Rattle.ely_domain.specs.Identities.{Known}
-use Rattle.ely_domain.specs.Keeping.{Founds, Kept, Meaning, Nothing, found_at, founds_by, kept_on, lists_by, meaning, means, word_by, word_on}
+use Rattle.ely_domain.specs.Keeping.{Founds, Kept, Meaning, Nothing, found_at, founds_by, kept_on, kept_opened, lists_by, meaning, means, with_founds, word_by, word_on}
 use Rattle.ely_domain.specs.KeptKeys.{stands_for}
-use Rattle.ely_domain.specs.Logins.{KnownLogin}
+use Rattle.ely_domain.specs.Logins.{KnownLogin, Live}
 use Rattle.ely_domain.specs.Steps.{carried, not_there}
 use Rattle.ely_domain.proofs.Founds.{founds_moved, founds_same, found_there}
 
@@ -106,3 +106,49 @@ module _ (known : Known) (logins : List (ℕ × ContextLogin)) (nonces : Nonces)
 
   pub kept_of_none : kept_in caches logins ≡ kept_on known (seen_live logins nonces) (kept_in caches logins) id event (not_there event) words.None
   kept_of_none = rw (not_there_refuses event) refl
+
+-- ---- steps that mean nothing for the keys
+
+module _ (k : Known) (live : Live) (kept : Kept) (c : ℕ) (event : Event) (none : (login : KnownLogin) → means k event login ≡ Nothing) where
+  nothing : meaning k live c event ≡ Nothing
+  nothing = by (login_of live.logins c)
+    where
+      by : (o : Option KnownLogin) → option_map_or (means k event) o Nothing ≡ Nothing
+      by None = refl
+      by (Some login) = none login
+
+  -- no word is due
+  pub no_words : {E : Type 0} (result : Result (Outcome × CacheWord) E) → IfOk result (λ said. stands_for said.1 ≡ word_on k live kept c event said.0)
+      → IfOk result (λ said. stands_for said.1 ≡ words.None)
+  no_words (Ok said) is = is ∙ by (is_accepted said.0)
+    where
+      by : (b : Bool) → cond b (word_by k kept.lists (found_at kept.founds c) (meaning k live c event)) words.None ≡ words.None
+      by true = ap (word_by k kept.lists (found_at kept.founds c)) nothing
+      by false = refl
+  no_words (Err e) is = is
+
+  -- the lists stay, and the namings under way found this
+  one_stays : (said : Outcome × CacheWord) (after : Kept) (founds : Founds) → founds_by c event said.1 kept.founds ≡ founds
+      → after ≡ kept_on k live kept c event said.0 said.1 → after ≡ kept_opened kept founds said.0
+  one_stays said after founds found is = is ∙ by (is_accepted said.0)
+    where
+      by : (b : Bool) → cond {A = Kept} b (record { lists = lists_by (meaning k live c event) said.1 kept.lists; founds = founds_by c event said.1 kept.founds }) kept
+          ≡ cond b (with_founds kept founds) kept
+      by true = ap₂ (λ ls fs. (let after : Kept = record { lists = ls; founds = fs } in after)) (ap (λ m. lists_by m said.1 kept.lists) nothing) found
+      by false = refl
+
+  pub lists_stay : {E : Type 0} (result : Result (Outcome × CacheWord) E) (after : Kept) (founds : Founds)
+      → ((shown : CacheWord) → founds_by c event shown kept.founds ≡ founds)
+      → IfOk result (λ said. after ≡ kept_on k live kept c event said.0 said.1) → IfOk result (λ said. after ≡ kept_opened kept founds said.0)
+  lists_stay (Ok said) after founds found is = one_stays said after founds (found said.1) is
+  lists_stay (Err e) after founds found is = is
+
+  -- all stays
+  pub all_stays : {E : Type 0} (result : Result (Outcome × CacheWord) E) (after : Kept) → ((shown : CacheWord) → founds_by c event shown kept.founds ≡ kept.founds)
+      → IfOk result (λ said. after ≡ kept_on k live kept c event said.0 said.1) → IfOk result (λ said. after ≡ kept)
+  all_stays (Ok said) after found is = one_stays said after kept.founds (found said.1) is ∙ by (is_accepted said.0)
+    where
+      by : (b : Bool) → cond b (with_founds kept kept.founds) kept ≡ kept
+      by true = refl
+      by false = refl
+  all_stays (Err e) after found is = is

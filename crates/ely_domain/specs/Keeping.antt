@@ -105,9 +105,13 @@ kept_changed given kept edit outcome =
     then record { lists = dropped given.config.realms edit kept.lists; founds = kept.founds }
     else kept
 
--- after an accepted open or close, what the namings found is this
+-- the same lists, where the namings under way found this
+abbrev pub with_founds : Kept → Founds → Kept
+with_founds kept founds = record { lists = kept.lists; founds = founds }
+
+-- after an accepted step what the namings found is this
 abbrev pub kept_opened : Kept → Founds → Outcome → Kept
-kept_opened kept founds outcome = if is_accepted outcome then record { lists = kept.lists; founds = founds } else kept
+kept_opened kept founds outcome = if is_accepted outcome then with_founds kept founds else kept
 
 -- the word that is due behind an outcome of an event at a machine
 abbrev pub word_due : Given → Machine → Kept → Event → Outcome → CacheWord
@@ -119,7 +123,7 @@ word_due given m kept event outcome = words.None
 abbrev pub kept_after : Given → Machine → Kept → Event → Outcome → CacheWord → Kept
 kept_after given m kept (events.Change edit) outcome shown = kept_changed given kept edit outcome
 kept_after given m kept (events.Begin c mech brought) outcome shown = kept_opened kept (with_login kept.founds c words.None) outcome
-kept_after given m kept (events.Close c) outcome shown = kept_opened kept (without_login kept.founds c) outcome
+kept_after given m kept (events.Close c) outcome shown = with_founds kept (without_login kept.founds c)
 kept_after given m kept (events.Name1 c claim) outcome shown = kept_on (known given m) m.live kept c (events.Name1 c claim) outcome shown
 kept_after given m kept (events.Name2 c serial brought) outcome shown =
     kept_on (known given m) m.live kept c (events.Name2 c serial brought) outcome shown

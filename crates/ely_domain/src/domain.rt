@@ -8,7 +8,7 @@ ghost use Rattle.ely_domain.specs.Domains.{IsLoginStep, TakesNoMemory, first_see
 ghost use Rattle.ely_domain.specs.Given.{loadings, realms};
 ghost use Rattle.ely_domain.specs.Jobs.{Brings, BringsResult, job_of, job_behind};
 ghost use Rattle.ely_domain.specs.Handing.{job_ahead};
-ghost use Rattle.ely_domain.specs.Keeping.{word_due, word_on, kept_after, kept_on, kept_changed, kept_opened};
+ghost use Rattle.ely_domain.specs.Keeping.{word_due, word_on, kept_after, kept_on, kept_changed, kept_opened, with_founds};
 ghost use Rattle.ely_domain.specs.KeptKeys.{stands_for};
 ghost use Rattle.ely_cache.specs.Caches.{untouched_in};
 ghost use Rattle.ely_row.specs.declared.edit.Edit.{Edit};
@@ -104,13 +104,15 @@ impl Domain {
             ≡ first_seen (record { config = config; limit = journal_limit })) }
     {
         let planned = Planned::of(alloc, config)?;
-        let config = planned.config();
+        let tables = first_tables(alloc, planned.config(), journal_limit)?;
+        let caches = first_caches(alloc, planned.config().realms())?;
+        let nonces = NonceTable::new(alloc, NONCES_LIMIT)?;
         Ok(Domain {
-            tables: first_tables(alloc, config, journal_limit)?,
-            caches: first_caches(alloc, config.realms())?,
+            tables,
             planned,
+            caches,
             logins: Logins::new(alloc),
-            nonces: NonceTable::new(alloc, NONCES_LIMIT)?,
+            nonces,
             handouts: Handouts::new(alloc),
             opened: 0,
         })
@@ -183,12 +185,13 @@ impl Domain {
         ensures err { OnErr result (self.new ≡ self.old) }
     {
         let serial = Serial(self.opened + 1);
-        let nonce = nonce_of(alloc, self.planned.config(), mech, self.opened + 1, brought)?;
+        let config = self.planned.config();
+        let nonce = nonce_of(alloc, config, mech, self.opened + 1, brought)?;
         let alg = alg_of(mech);
         if let Some(fault) = opening_fault(&self.logins, &self.nonces, id, &nonce, alg) {
             return Ok(fault);
         }
-        let challenge = challenge(alloc, self.planned.config(), &nonce, alg)?;
+        let challenge = challenge(alloc, config, &nonce, alg)?;
         let (logins, nonces) = (&mut self.logins, &mut self.nonces);
         open(alloc, logins, nonces, id, serial, mech, nonce)?;
         self.opened += 1;
@@ -201,7 +204,7 @@ impl Domain {
         ensures ok { (result, self.new.machine)
             ≡ with_answered self.old.machine (closed self.old.machine.live id) }
         ensures kept { self.new.kept
-            ≡ kept_opened self.old.kept (without_login self.old.kept.founds id) result }
+            ≡ with_founds self.old.kept (without_login self.old.kept.founds id) }
         ensures given { self.new.given ≡ self.old.given }
     {
         let _ = self.handouts.take(id);
