@@ -39,7 +39,7 @@ fn push_all(out: &mut Vec<u8>, number: u64, line: u64, entries: &[Entry]) -> Res
 
 /// Puts what the line prints behind what is there, and gives the number of the next step. What owns much is let go by
 /// `discard`.
-fn push_line<L: Ledger>(
+pub(crate) fn push_line<L: Ledger>(
     alloc: Global,
     domain: &mut Domain,
     text: &[u8],
