@@ -8,6 +8,7 @@ use Rattle.ely_domain.specs.declared.event.Event.{Event}
 use Rattle.ely_domain.specs.Costs.{RoseBy, step_cost, cost_from}
 use Rattle.ely_domain.specs.Domains.{Seen}
 use Rattle.ely_domain.specs.Given.{Given}
+use Rattle.ely_domain.specs.Keeping.{kept_after}
 use Rattle.ely_domain.specs.Lines.{Ran, Taken, taken, carried_after, after_first, run_parts, entries_at}
 use Rattle.ely_domain.specs.Machine.{Machine, step}
 use Rattle.ely_domain.specs.Parts.{Part, parts_of, event_of}

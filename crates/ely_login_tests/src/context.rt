@@ -5,7 +5,7 @@ ghost use Rattle.ely_context.specs.ContextTable.{fail};
 ghost use Rattle.ely_context.specs.Logins.{moved_at, state_at};
 
 use ely_base::{Bytes, CtxId, Name, NoMemory, Serial, Version};
-use ely_context::{Context, Logins, Pin, Stage, StateWord};
+use ely_context::{Context, Logins, Pin, StateWord};
 use ely_cred::{Ready, choose, derive};
 use ely_hash::Steps;
 use ely_pipeline::Place;
@@ -15,6 +15,19 @@ use std::alloc::Global;
 use std::marker::Brand;
 use std::sync::ledger::{Blank, Ledger};
 use std::test::Fail;
+
+/// Lets a value go. What owns much is let go here, since the prover looks into each drop wherever it stands.
+fn discard<D: Drop>(value: D) {
+    let _ = value;
+}
+
+/// What is there, with what was made beside it. Where that wanted memory, what is there is let go here.
+fn beside<A: Drop, B>(there: A, made: Result<B, NoMemory>) -> Result<(A, B), NoMemory> {
+    match made {
+        Ok(made) => Ok((there, made)),
+        Err(NoMemory) => Err(NoMemory),
+    }
+}
 
 fn name(alloc: Global, text: &[u8]) -> Result<Name, NoMemory> {
     match Name::read(alloc, text) {
@@ -61,17 +74,26 @@ fn ready(alloc: Global) -> Result<Ready, NoMemory> {
     counted_ready::<Brand>(Blank::new(1), alloc, &row)
 }
 
+fn place(alloc: Global) -> Result<Place, NoMemory> {
+    let (realm, name) = beside(name(alloc, b"main")?, name(alloc, b"user"))?;
+    Ok(Place { realm, name })
+}
+
+fn shared(alloc: Global) -> Result<SharedRow, NoMemory> {
+    let row = row(alloc)?;
+    SharedRow::new(alloc, row)
+}
+
 fn pin(alloc: Global, version: u64) -> Result<Pin, NoMemory> {
+    let placed = beside(place(alloc)?, name(alloc, b"user"))?;
+    let ((place, name), row) = beside(placed, shared(alloc))?;
     Ok(Pin {
         version: Version(version),
-        place: Place {
-            realm: name(alloc, b"main")?,
-            name: name(alloc, b"user")?,
-        },
-        row: SharedRow::new(alloc, row(alloc)?)?,
+        place,
+        row,
         claim: Claim::Plain {
             authzid: None,
-            name: name(alloc, b"user")?,
+            name,
         },
         found: CacheWord::Dash,
         held: None,
@@ -93,7 +115,10 @@ fn fresh(alloc: Global, serial: u64) -> Result<Context, NoMemory> {
 fn refused_pin(login: &mut Context, pin: Pin) -> Option<StateWord> {
     match login.name1(pin) {
         Ok(()) => None,
-        Err((state, _)) => Some(state),
+        Err((state, pin)) => {
+            discard(pin);
+            Some(state)
+        }
     }
 }
 
@@ -101,7 +126,10 @@ fn refused_pin(login: &mut Context, pin: Pin) -> Option<StateWord> {
 fn refused_evidence(login: &mut Context, evidence: Evidence) -> Option<StateWord> {
     match login.check1(evidence) {
         Ok(()) => None,
-        Err((state, _)) => Some(state),
+        Err((state, evidence)) => {
+            discard(evidence);
+            Some(state)
+        }
     }
 }
 
@@ -119,67 +147,73 @@ fn walked(login: &mut Context, pin: Pin, ready: Ready, password: Evidence) -> [b
     ]
 }
 
-fn walk_ready(alloc: Global, pin: Pin, ready: Ready, password: Evidence) -> [bool; 8] {
-    let mut login = Context::begin(Serial(1), Mech::Plain, Bytes::of(Vec::new(alloc)));
-    walked(&mut login, pin, ready, password)
-}
-
-fn walk_shown(alloc: Global, pin: Pin, password: Evidence) -> Result<[bool; 8], NoMemory> {
-    let ready = ready(alloc)?;
-    Ok(walk_ready(alloc, pin, ready, password))
-}
-
-fn walk_pinned(alloc: Global, pin: Pin) -> Result<[bool; 8], NoMemory> {
-    let password = password(alloc)?;
-    walk_shown(alloc, pin, password)
-}
-
 fn walk(alloc: Global) -> Result<[bool; 8], NoMemory> {
-    let pin = pin(alloc, 2)?;
-    walk_pinned(alloc, pin)
+    let shown = beside(password(alloc)?, pin(alloc, 2))?;
+    let ((password, pin), ready) = beside(shown, ready(alloc))?;
+    let mut login = Context::begin(Serial(1), Mech::Plain, Bytes::of(Vec::new(alloc)));
+    let steps = walked(&mut login, pin, ready, password);
+    discard(login);
+    Ok(steps)
 }
 
-fn stage(state: u8) -> Stage<u8, u8, u8> {
-    match state {
-        0 => Stage::Fresh,
-        1 => Stage::Loading(1),
-        2 => Stage::Named(1, 2),
-        3 => Stage::Checking(1, 2, 3),
-        4 => Stage::Proved(1),
-        5 => Stage::Authorized(1),
-        6 => Stage::Complete(1),
-        _ => Stage::Failed,
+/// What comes to a login: name1, name2, check1, a check2 that is proved and one that isn't, an authorize that is granted and
+/// one that isn't, succeed, fail.
+fn meet(alloc: Global, login: &mut Context, event: u8) -> Result<(), NoMemory> {
+    match event {
+        0 => {
+            let _ = refused_pin(login, pin(alloc, 2)?);
+        }
+        1 => {
+            let _ = login.name2(ready(alloc)?, None);
+        }
+        2 => {
+            let _ = refused_evidence(login, password(alloc)?);
+        }
+        3 | 4 => {
+            let _ = login.check2(event == 3);
+        }
+        5 | 6 => {
+            let _ = login.authorize(event == 5);
+        }
+        7 => {
+            let _ = login.succeed();
+        }
+        _ => {
+            let _ = login.fail();
+        }
     }
+    Ok(())
 }
 
-/// The state after an event: name1, name2, check1, a check2 that is proved and one that isn't, an authorize that is granted
-/// and one that isn't, succeed, fail.
-fn after(state: u8, event: u8) -> StateWord {
-    let mut stage = stage(state);
-    let _ = match event {
-        0 => stage.name1(1).is_ok(),
-        1 => stage.name2(2).is_ok(),
-        2 => stage.check1(3).is_ok(),
-        3 => stage.check2(true).is_ok(),
-        4 => stage.check2(false).is_ok(),
-        5 => stage.authorize(true).is_ok(),
-        6 => stage.authorize(false).is_ok(),
-        7 => stage.succeed().is_ok(),
-        _ => stage.fail().is_ok(),
-    };
-    stage.state()
+fn meet_all(alloc: Global, login: &mut Context, events: &[u8]) -> Result<(), NoMemory> {
+    for event in events {
+        meet(alloc, login, *event)?;
+    }
+    Ok(())
 }
 
-/// The state's number, and the letter of the state after each event.
-const TABLE: [&[u8; 9]; 8] = [
-    b"lfffffffx",
-    b"lnllllllx",
-    b"nncnnnnnx",
-    b"cccpxcccx",
-    b"pppppappx",
-    b"aaaaaaaex",
-    b"eeeeeeeee",
-    b"xxxxxxxxx",
+/// The state of a fresh login after these events and then that one.
+fn after(alloc: Global, events: &[u8], last: u8) -> Result<StateWord, NoMemory> {
+    let mut login = Context::begin(Serial(1), Mech::Plain, Bytes::of(Vec::new(alloc)));
+    let met = meet_all(alloc, &mut login, events);
+    let done = meet(alloc, &mut login, last);
+    let state = login.state();
+    discard(login);
+    met?;
+    done?;
+    Ok(state)
+}
+
+/// The events that lead to each state, and the letter of the state after each event there.
+const TABLE: [(&[u8], &[u8; 9]); 8] = [
+    (&[], b"lfffffffx"),
+    (&[0], b"lnllllllx"),
+    (&[0, 1], b"nncnnnnnx"),
+    (&[0, 1, 2], b"cccpxcccx"),
+    (&[0, 1, 2, 3], b"pppppappx"),
+    (&[0, 1, 2, 3, 5], b"aaaaaaaex"),
+    (&[0, 1, 2, 3, 5, 7], b"eeeeeeeee"),
+    (&[8], b"xxxxxxxxx"),
 ];
 
 fn letter(state: StateWord) -> u8 {
@@ -197,12 +231,13 @@ fn letter(state: StateWord) -> u8 {
 }
 
 #[test]
-fn each_event_moves_a_stage_by_the_table(rt: HostRuntime) {
-    for (state, row) in TABLE.iter().enumerate() {
-        for (event, wanted) in row.iter().enumerate() {
-            assert_eq!(rt; letter(after(state as u8, event as u8)), *wanted);
+fn each_event_moves_a_login_by_the_table(rt: HostRuntime) -> Result<(), Fail> {
+    for (events, row) in TABLE {
+        for (last, wanted) in row.iter().enumerate() {
+            assert_eq!(rt; letter(after(rt.alloc(), events, last as u8)?), *wanted);
         }
     }
+    Ok(())
 }
 
 #[test]
@@ -240,12 +275,19 @@ fn state_now(logins: &Logins, id: u32) -> Option<StateWord> {
     }
 }
 
+/// Opens three logins.
+fn open_three(alloc: Global, logins: &mut Logins) -> Result<(), NoMemory> {
+    for id in [7u32, 3, 4294967295] {
+        open_at(alloc, logins, id)?;
+    }
+    Ok(())
+}
+
 /// Three fresh logins.
 fn three(alloc: Global) -> Result<Logins, NoMemory> {
     let mut logins = Logins::new(alloc);
-    for id in [7u32, 3, 4294967295] {
-        open_at(alloc, &mut logins, id)?;
-    }
+    let opened = open_three(alloc, &mut logins);
+    let (logins, ()) = beside(logins, opened)?;
     Ok(logins)
 }
 

@@ -4,7 +4,6 @@ use self::Form::{Joined, Kept, Own, Texts};
 use ely_base::{Bytes, Items, Name, NoMemory, Refused};
 use ely_config::RealmFault::{Limit, Nested, Unknown};
 use ely_config::Reference::{Authentication, Authorization, Of};
-use ely_config::members::discard;
 use ely_config::{Config, ConfigFault, Members, RealmConfig, RealmFault, RealmKind};
 use ely_perm::{Mode, PermRow, Permissions};
 use ely_pipeline::{Pipeline, RealmMapper, Rule};
@@ -13,6 +12,26 @@ use ely_row::{Params, PropFault};
 use std::alloc::Global;
 use std::fmt::Debug;
 use std::test::Fail;
+
+/// Lets a value go. What owns much is let go here, since the prover looks into each drop wherever it stands.
+fn discard<D: Drop>(value: D) {
+    let _ = value;
+}
+
+/// What is there with what was made beside it. Where that wanted memory, what is there is let go here.
+fn beside<A: Drop, B>(there: A, made: Result<B, NoMemory>) -> Result<(A, B), NoMemory> {
+    match made {
+        Ok(made) => Ok((there, made)),
+        Err(NoMemory) => Err(NoMemory),
+    }
+}
+
+/// The list with what was made behind it. Where that wanted memory, the list is let go here.
+fn behind<T: Drop>(list: Vec<T>, made: Result<T, NoMemory>) -> Result<Vec<T>, NoMemory> {
+    let (mut list, made) = beside(list, made)?;
+    list.push(made)?;
+    Ok(list)
+}
 
 const USERS: &[u8] = b"u=939e7578ed9e3c518a452acee763bce9\n";
 
@@ -133,27 +152,35 @@ fn kind(alloc: Global, form: Form) -> Result<RealmKind, NoMemory> {
 }
 
 fn realm(alloc: Global, told: Told) -> Result<RealmConfig, NoMemory> {
+    let texts = beside(name(alloc, told.0)?, name(alloc, b"groups"))?;
+    let mapped = beside(texts, role_mapper(alloc, told.1))?;
+    let (((name, role_attribute), role_mapper), kind) = beside(mapped, kind(alloc, told.2))?;
     Ok(RealmConfig {
-        name: name(alloc, told.0)?,
-        role_attribute: name(alloc, b"groups")?,
-        kind: kind(alloc, told.2)?,
-        role_mapper: role_mapper(alloc, told.1)?,
+        name,
+        role_attribute,
+        kind,
+        role_mapper,
     })
 }
 
 fn realms(alloc: Global, all: &[Told]) -> Result<Items<RealmConfig>, NoMemory> {
     let mut list = Vec::new(alloc);
     for told in all {
-        list.push(realm(alloc, *told)?)?;
+        list = behind(list, realm(alloc, *told))?;
     }
     Ok(Items::of(list))
+}
+
+/// The realm of that name without a rule.
+fn unruled(alloc: Global, text: &[u8]) -> Result<(Name, Option<Rule>), NoMemory> {
+    Ok((name(alloc, text)?, None))
 }
 
 /// The same as a pipeline knows them, without a rule.
 fn known(alloc: Global, all: &[Told]) -> Result<Items<(Name, Option<Rule>)>, NoMemory> {
     let mut list = Vec::new(alloc);
     for told in all {
-        list.push((name(alloc, told.0)?, None))?;
+        list = behind(list, unruled(alloc, told.0))?;
     }
     Ok(Items::of(list))
 }
@@ -162,10 +189,11 @@ fn known(alloc: Global, all: &[Told]) -> Result<Items<(Name, Option<Rule>)>, NoM
 fn by_pairs(alloc: Global, to: &[&[u8]]) -> Result<RealmMapper, NoMemory> {
     let mut list = Vec::new(alloc);
     for realm in to {
-        list.push((name(alloc, b"a")?, name(alloc, realm)?))?;
+        list = behind(list, beside(name(alloc, b"a")?, name(alloc, realm)))?;
     }
+    let (list, mark) = beside(list, name(alloc, b"@"))?;
     Ok(RealmMapper::MapAfter {
-        mark: name(alloc, b"@")?,
+        mark,
         pairs: Items::of(list),
     })
 }
@@ -181,22 +209,27 @@ fn realm_mapper(alloc: Global, led: Led) -> Result<Option<RealmMapper>, NoMemory
 }
 
 fn pipeline(alloc: Global, parts: &Parts) -> Result<Pipeline, NoMemory> {
+    let led = beside(
+        name(alloc, parts.default_realm)?,
+        realm_mapper(alloc, parts.led),
+    )?;
+    let known = beside(led, known(alloc, parts.known))?;
+    let (((default_realm, mapper), realms), names) = beside(known, names(alloc, parts.names))?;
     Ok(Pipeline {
         pre: None,
         post: None,
-        default_realm: name(alloc, parts.default_realm)?,
-        realms: known(alloc, parts.known)?,
-        mapper: realm_mapper(alloc, parts.led)?,
-        decoder: Some(Rule::Require {
-            names: names(alloc, parts.names)?,
-        }),
+        default_realm,
+        realms,
+        mapper,
+        decoder: Some(Rule::Require { names }),
     })
 }
 
 fn perm_row(alloc: Global) -> Result<PermRow, NoMemory> {
+    let (principals, roles) = beside(names(alloc, &[MAIN])?, names(alloc, &[MORE]))?;
     Ok(PermRow {
-        principals: names(alloc, &[MAIN])?,
-        roles: names(alloc, &[MORE])?,
+        principals,
+        roles,
         match_all: false,
         grant: Items::of(Vec::new(alloc)),
     })
@@ -205,7 +238,7 @@ fn perm_row(alloc: Global) -> Result<PermRow, NoMemory> {
 fn permissions(alloc: Global, count: u8) -> Result<Permissions, NoMemory> {
     let mut rows = Vec::new(alloc);
     for _ in 0..count {
-        rows.push(perm_row(alloc)?)?;
+        rows = behind(rows, perm_row(alloc))?;
     }
     Ok(Permissions {
         mode: Mode::Or,
@@ -214,13 +247,21 @@ fn permissions(alloc: Global, count: u8) -> Result<Permissions, NoMemory> {
 }
 
 fn members(alloc: Global, parts: &Parts) -> Result<Members, NoMemory> {
+    let texts = Bytes::copy_of(alloc, parts.digest_realm)?;
+    let led = beside(texts, pipeline(alloc, parts))?;
+    let mapped = beside(led, role_mapper(alloc, parts.roles))?;
+    let granted = beside(mapped, permissions(alloc, parts.rows))?;
+    let ((((digest_realm, pipeline), role_mapper), permissions), realms) = beside(
+        granted,
+        realms(alloc, parts.realms),
+    )?;
     Ok(Members {
-        digest_realm: Bytes::copy_of(alloc, parts.digest_realm)?,
+        digest_realm,
         params: Params::plain(alloc),
-        permissions: permissions(alloc, parts.rows)?,
-        role_mapper: role_mapper(alloc, parts.roles)?,
-        realms: realms(alloc, parts.realms)?,
-        pipeline: pipeline(alloc, parts)?,
+        permissions,
+        role_mapper,
+        realms,
+        pipeline,
     })
 }
 

@@ -1,5 +1,4 @@
 use ely_base::{Items, Name, NoMemory, Refused, cut_at};
-use ely_pipeline::applying::apply;
 use ely_pipeline::{PipeFault, Pipeline, Place, RealmMapper, Rule, resolve};
 use sqlite_items::Items as Nested;
 use std::alloc::Global;
@@ -77,9 +76,30 @@ fn rule(alloc: Global, word: &[u8], text: &[u8]) -> Result<Rule, NoMemory> {
     }
 }
 
+/// What the rule makes of the name, or nothing: what a pipeline resolves whose decoder it is.
+fn made(alloc: Global, rule: &Rule, from: &Name) -> Result<Option<Name>, NoMemory> {
+    let default_realm = name(alloc, b"main")?;
+    let mut realms = Vec::new(alloc);
+    realms.push((name(alloc, b"main")?, None))?;
+    let decoder = Some(rule.copy(alloc)?);
+    let pipe = Pipeline {
+        decoder,
+        pre: None,
+        mapper: None,
+        default_realm,
+        post: None,
+        realms: Items::of(realms),
+    };
+    match resolve(alloc, &pipe, from) {
+        Ok(place) => Ok(Some(place.name)),
+        Err(Refused::Fault(_)) => Ok(None),
+        Err(Refused::NoMemory) => Err(NoMemory),
+    }
+}
+
 /// Whether the rule makes that of the name, where a dash is nothing.
 fn is_made(alloc: Global, rule: &Rule, from: &[u8], to: &[u8]) -> Result<bool, NoMemory> {
-    match apply(alloc, rule, &name(alloc, from)?)? {
+    match made(alloc, rule, &name(alloc, from)?)? {
         Some(made) => Ok(made.bytes() == to),
         None => Ok(to == b"-".as_slice()),
     }
@@ -153,7 +173,7 @@ fn joined_len(alloc: Global, is_before: bool, length: usize) -> Result<usize, No
     } else {
         Rule::AddSuffix { text }
     };
-    match apply(alloc, &rule, &long(alloc, length)?)? {
+    match made(alloc, &rule, &long(alloc, length)?)? {
         Some(made) => Ok(made.bytes().len()),
         None => Ok(0),
     }

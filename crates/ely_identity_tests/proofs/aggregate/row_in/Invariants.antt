@@ -1,6 +1,6 @@
 use Rattle.std.proofs.Common.{◌≡◌, drop, find}
 use Rattle.ely_row.specs.Edits.{is_place}
-use Rattle.ely_aggregate.proofs.tests.row_in.Given as goal
+use Rattle.ely_identity_tests.proofs.aggregate.row_in.Given as goal
 
 -- what is sought stands among what is left
 abbrev pub invariant-loop-listed : goal.invariant-loop-listed

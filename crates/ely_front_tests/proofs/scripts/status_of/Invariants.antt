@@ -1,4 +1,4 @@
-use Rattle.ely_front.proofs.rules_tests.printed.Given as goal
+use Rattle.ely_front_tests.proofs.scripts.status_of.Given as goal
 
 -- the counter's ledger is the one that was opened for it
 abbrev pub ghosts-counted : goal.ghosts-counted

@@ -1,9 +1,9 @@
 //! Scripts under configurations with rules for names, mappers of roles and rows of permissions.
 
-use crate::config_tests::{config_of, counted};
+use crate::config::{config_of, counted};
+use crate::making::{behind, beside, put};
 use ely_base::{Bytes, Items, Name, NoMemory};
 use ely_config::Members;
-use ely_job::discard;
 use ely_perm::{Mode, PermRow, Permissions};
 use ely_pipeline::{Pipeline, RealmMapper, Rule};
 use ely_roles::RoleMapper;
@@ -26,14 +26,7 @@ fn printed(alloc: Global, members: Members, script: &[u8]) -> Result<Vec<u8>, No
 fn known_main(alloc: Global) -> Result<Vec<(Name, Option<Rule>)>, NoMemory> {
     let main = name(alloc, b"main")?;
     let text = name(alloc, b"@")?;
-    let mut realms = Vec::with_capacity(alloc, 1)?;
-    match realms.push((main, Some(Rule::Before { text }))) {
-        Ok(()) => Ok(realms),
-        Err(_) => {
-            discard(realms);
-            Err(NoMemory)
-        }
-    }
+    behind(Vec::new(alloc), Ok((main, Some(Rule::Before { text }))))
 }
 
 /// The stages of users who write `corp-USER@REALM`, with one realm `main`. What owns most is made last.
@@ -76,8 +69,8 @@ const PLACES: &[u8] = b"1 0 1 add ok 1
 fn a_name_passes_the_stages_or_is_told_the_first_that_leaves_nothing(
     rt: HostRuntime,
 ) -> Result<(), Fail> {
-    let mut members = Members::plain(rt.alloc())?;
-    members.pipeline = corporate(rt.alloc())?;
+    let (pipeline, mut members) = beside(corporate(rt.alloc())?, Members::plain(rt.alloc()))?;
+    put(&mut members.pipeline, pipeline);
     let said = printed(rt.alloc(), members, SPELLINGS)?;
     assert!(rt; said.as_slice() == PLACES);
     Ok(())
@@ -88,8 +81,8 @@ fn developers(alloc: Global) -> Result<RoleMapper, NoMemory> {
     let mut targets = Vec::new(alloc);
     targets.push(name(alloc, b"code")?)?;
     targets.push(name(alloc, b"read")?)?;
-    let mut map = Vec::new(alloc);
-    map.push((name(alloc, b"dev")?, Items::of(targets)))?;
+    let (targets, dev) = beside(Items::of(targets), name(alloc, b"dev"))?;
+    let map = behind(Vec::new(alloc), Ok((dev, targets)))?;
     Ok(RoleMapper::Mapped {
         map: Items::of(map),
         keep_mapped: false,
@@ -121,8 +114,8 @@ const ROLES: &[u8] = b"1 0 1 add ok 1
 
 #[test]
 fn roles_are_mapped_as_of_the_pinned_version(rt: HostRuntime) -> Result<(), Fail> {
-    let mut members = Members::plain(rt.alloc())?;
-    members.role_mapper = Some(developers(rt.alloc())?);
+    let (mapper, mut members) = beside(developers(rt.alloc())?, Members::plain(rt.alloc()))?;
+    put(&mut members.role_mapper, Some(mapper));
     let said = printed(rt.alloc(), members, GROUPS)?;
     assert!(rt; said.as_slice() == ROLES);
     Ok(())
@@ -135,16 +128,15 @@ fn staff(alloc: Global) -> Result<Permissions, NoMemory> {
     let mut grant = Vec::new(alloc);
     grant.push(Bytes::copy_of(alloc, b"login")?)?;
     grant.push(Bytes::copy_of(alloc, b"run-as:*")?)?;
-    let mut rows = Vec::new(alloc);
-    rows.push(PermRow {
+    let row = PermRow {
         principals: Items::of(Vec::new(alloc)),
         roles: Items::of(roles),
         match_all: false,
         grant: Items::of(grant),
-    })?;
+    };
     Ok(Permissions {
         mode: Mode::First,
-        rows: Items::of(rows),
+        rows: Items::of(behind(Vec::new(alloc), Ok(row))?),
     })
 }
 
@@ -187,8 +179,8 @@ const GRANTS: &[u8] = b"1 0 1 add ok 1
 
 #[test]
 fn permissions_are_of_the_pinned_version(rt: HostRuntime) -> Result<(), Fail> {
-    let mut members = Members::plain(rt.alloc())?;
-    members.permissions = staff(rt.alloc())?;
+    let (permissions, mut members) = beside(staff(rt.alloc())?, Members::plain(rt.alloc()))?;
+    put(&mut members.permissions, permissions);
     let said = printed(rt.alloc(), members, HIRED)?;
     assert!(rt; said.as_slice() == GRANTS);
     Ok(())

@@ -2,13 +2,14 @@
 
 ghost use Rattle.std.specs.Prelude.{◌≡◌, ◌<◌};
 
-use crate::config_tests::{config_of, counted, push_line};
-use crate::first_line::Setup;
+use crate::config::{config_of, counted, domain_of, push_line};
+use crate::making::{behind, beside, put};
 use ely_base::{Bytes, CtxId, Items, Name, NoMemory, Serial};
 use ely_config::{Config, Members, RealmConfig, RealmKind};
 use ely_domain::{Domain, Event};
 use ely_hash::Steps;
 use ely_job::{Done, Job, discard};
+use ely_pipeline::Rule;
 use ely_row::Params;
 use ely_script::{Claim, Entry, push_step};
 use std::alloc::Global;
@@ -22,10 +23,16 @@ fn name(alloc: Global, text: &[u8]) -> Result<Name, NoMemory> {
 
 /// A realm of this name and kind.
 fn realm(alloc: Global, text: &[u8], kind: RealmKind) -> Result<RealmConfig, NoMemory> {
+    let (kind, name) = beside(kind, name(alloc, text))?;
+    let role_attribute = Vec::from_slice(alloc, b"groups");
+    let ((kind, name), role_attribute) = beside(
+        (kind, name),
+        role_attribute.map_err(|_| NoMemory),
+    )?;
     Ok(RealmConfig {
-        name: name(alloc, text)?,
+        name,
         kind,
-        role_attribute: name(alloc, b"groups")?,
+        role_attribute: Name::of(role_attribute),
         role_mapper: None,
     })
 }
@@ -38,11 +45,11 @@ fn front(alloc: Global, of: &[u8], limit: u32) -> Result<RealmConfig, NoMemory> 
 
 /// The realm `both`, whose credentials are those of `people` and whose attributes are those of `extra`.
 fn both(alloc: Global) -> Result<RealmConfig, NoMemory> {
-    let mut authorization = Vec::new(alloc);
-    authorization.push(name(alloc, b"extra")?)?;
+    let people = name(alloc, b"people")?;
+    let (authentication, extra) = beside(people, behind(Vec::new(alloc), name(alloc, b"extra")))?;
     let kind = RealmKind::Aggregate {
-        authentication: name(alloc, b"people")?,
-        authorization: Items::of(authorization),
+        authentication,
+        authorization: Items::of(extra),
     };
     realm(alloc, b"both", kind)
 }
@@ -57,35 +64,47 @@ enum Realms {
 }
 
 /// The realms, in order.
-fn realms(alloc: Global, which: Realms) -> Result<Vec<RealmConfig>, NoMemory> {
-    let mut realms = Vec::new(alloc);
+fn listed(alloc: Global, which: Realms) -> Result<Vec<RealmConfig>, NoMemory> {
+    let realms = Vec::new(alloc);
     match which {
         Realms::One(limit) => {
-            realms.push(realm(alloc, b"main", RealmKind::Modifiable)?)?;
-            realms.push(front(alloc, b"main", limit)?)?;
+            let realms = behind(realms, realm(alloc, b"main", RealmKind::Modifiable))?;
+            behind(realms, front(alloc, b"main", limit))
         }
         Realms::Joined => {
-            realms.push(realm(alloc, b"people", RealmKind::Modifiable)?)?;
-            realms.push(realm(alloc, b"extra", RealmKind::Modifiable)?)?;
-            realms.push(both(alloc)?)?;
-            realms.push(front(alloc, b"both", 16)?)?;
+            let realms = behind(realms, realm(alloc, b"people", RealmKind::Modifiable))?;
+            let realms = behind(realms, realm(alloc, b"extra", RealmKind::Modifiable))?;
+            let realms = behind(realms, both(alloc))?;
+            behind(realms, front(alloc, b"both", 16))
         }
     }
-    Ok(realms)
+}
+
+/// The name of the realm, without a rule.
+fn unruled(alloc: Global, realm: &RealmConfig) -> Result<(Name, Option<Rule>), NoMemory> {
+    Ok((realm.name.copy(alloc)?, None))
+}
+
+/// The realms as the stages of a name know them.
+fn known(alloc: Global, realms: &[RealmConfig]) -> Result<Items<(Name, Option<Rule>)>, NoMemory> {
+    let mut known = Vec::new(alloc);
+    for realm in realms {
+        known = behind(known, unruled(alloc, realm))?;
+    }
+    Ok(Items::of(known))
 }
 
 /// A configuration of these realms.
 fn config(alloc: Global, which: Realms) -> Result<Config, NoMemory> {
-    let mut members = Members::plain(alloc)?;
-    let realms = realms(alloc, which)?;
-    let mut known = Vec::new(alloc);
-    for realm in &realms {
-        known.push((realm.name.copy(alloc)?, None))?;
-    }
-    members.realms = Items::of(realms);
-    members.pipeline.realms = Items::of(known);
-    members.pipeline.default_realm = name(alloc, b"front")?;
-    members.params = salted(alloc)?;
+    let realms = listed(alloc, which)?;
+    let known = known(alloc, &realms);
+    let named = beside(beside(realms, known)?, name(alloc, b"front"))?;
+    let whole = beside(beside(named, salted(alloc))?, Members::plain(alloc))?;
+    let ((((realms, known), default_realm), params), mut members) = whole;
+    put(&mut members.realms, Items::of(realms));
+    put(&mut members.pipeline.realms, known);
+    put(&mut members.pipeline.default_realm, default_realm);
+    put(&mut members.params, params);
     config_of(alloc, members)
 }
 
@@ -346,6 +365,14 @@ fn end<L: Ledger>(
     Ok(())
 }
 
+/// A copy of the job, where there is one.
+fn copied(alloc: Global, job: &Option<Job>) -> Result<Option<Job>, NoMemory> {
+    match job {
+        None => Ok(None),
+        Some(job) => Ok(Some(job.copy(alloc)?)),
+    }
+}
+
 /// Makes the move, and gives the number of the next step.
 fn made<L: Ledger>(
     alloc: Global,
@@ -361,13 +388,12 @@ fn made<L: Ledger>(
         Move::Begin(ctx) => {
             let event = begin(alloc, ctx)?;
             let job = take(alloc, domain, event, number, out, steps)?;
+            let copied = copied(alloc, &job);
+            let (job, first) = beside(job, copied)?;
             if jobs.first.is_none() {
-                jobs.first = match &job {
-                    None => None,
-                    Some(job) => Some(job.copy(alloc)?),
-                };
+                put(&mut jobs.first, first);
             }
-            jobs.last = job;
+            put(&mut jobs.last, job);
             Ok(number.saturating_add(1))
         }
         Move::End(ctx, serial, brings) => {
@@ -408,8 +434,7 @@ fn played<L: Ledger>(blank: Blank, alloc: Global, moves: &[Move<'_>]) -> Result<
     requires some { 0 < blank.parts }
 {
     let mut steps = Steps::<L>::of(blank);
-    let setup = Setup::of(config(alloc, Realms::One(16))?);
-    let mut domain = Domain::new(alloc, setup.config, setup.journal_limit)?;
+    let mut domain = domain_of(alloc, config(alloc, Realms::One(16))?)?;
     let mut jobs = Jobs {
         first: None,
         last: None,

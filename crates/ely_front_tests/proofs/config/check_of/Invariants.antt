@@ -1,4 +1,4 @@
-use Rattle.ely_front.proofs.config_tests.check_of.Given as goal
+use Rattle.ely_front_tests.proofs.config.check_of.Given as goal
 
 -- the counter's ledger is the one that was opened for it
 abbrev pub ghosts-checked : goal.ghosts-checked

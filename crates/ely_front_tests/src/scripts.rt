@@ -1,6 +1,6 @@
 ghost use Rattle.std.specs.Prelude.{◌≡◌, ◌<◌};
 
-use crate::run;
+use ely_front::run;
 use ely_hash::Steps;
 use ely_io::{MemSink, MemSource};
 use std::alloc::Global;

@@ -2,14 +2,14 @@
 
 ghost use Rattle.std.specs.Prelude.{◌≡◌, ◌<◌};
 
-use crate::first_line::Setup;
-use crate::run_line;
+use crate::making::{behind, beside, put};
 use ely_base::{Bytes, CtxId, Items, Name, NoMemory, Refused, Serial};
 use ely_config::{Config, Members, RealmConfig, RealmKind};
-use ely_domain::{Domain, Event};
+use ely_domain::{Domain, Event, JOURNAL_LIMIT};
+use ely_front::run_line;
 use ely_hash::Steps;
 use ely_job::discard;
-use ely_pipeline::{Pipeline, Rule};
+use ely_pipeline::Rule;
 use ely_script::{
     Claim, Command, Entry, Evidence, LineError, Outcome, StateWord, push_step, read_line,
 };
@@ -77,6 +77,12 @@ fn push_script<L: Ledger>(
     Ok(())
 }
 
+/// A domain of the configuration, with the journal that each mode gives it.
+pub(crate) fn domain_of(alloc: Global, config: Config) -> Result<Domain, NoMemory> {
+    let _realms = config.realms();
+    Domain::new(alloc, config, JOURNAL_LIMIT)
+}
+
 /// What the lines print under the configuration.
 pub(crate) fn counted<L: Ledger>(
     blank: Blank,
@@ -89,8 +95,7 @@ pub(crate) fn counted<L: Ledger>(
     requires some { 0 < blank.parts }
 {
     let mut steps = Steps::<L>::of(blank);
-    let setup = Setup::of(config);
-    let mut domain = Domain::new(alloc, setup.config, setup.journal_limit)?;
+    let mut domain = domain_of(alloc, config)?;
     let mut out = Vec::new(alloc);
     let pushed = push_script(alloc, &mut domain, script, &mut out, &mut steps);
     discard(domain);
@@ -113,23 +118,26 @@ fn file_name(alloc: Global) -> Result<Name, NoMemory> {
 
 /// A realm `file` of users and groups.
 fn file_realm(alloc: Global, users: &[u8], groups: &[u8]) -> Result<RealmConfig, NoMemory> {
+    let name = file_name(alloc)?;
+    let role_attribute = Name::of(Vec::from_slice(alloc, b"groups")?);
+    let users = Bytes::copy_of(alloc, users)?;
+    let groups = Bytes::copy_of(alloc, groups)?;
     Ok(RealmConfig {
-        name: file_name(alloc)?,
+        name,
         kind: RealmKind::Properties {
             plain: false,
-            users: Bytes::copy_of(alloc, users)?,
-            groups: Bytes::copy_of(alloc, groups)?,
+            users,
+            groups,
         },
-        role_attribute: Name::of(Vec::from_slice(alloc, b"groups")?),
+        role_attribute,
         role_mapper: None,
     })
 }
 
 /// The realms that the stages of a name know: one that is named `file`, without a rule.
 fn known_file(alloc: Global) -> Result<Items<(Name, Option<Rule>)>, NoMemory> {
-    let mut known = Vec::new(alloc);
-    known.push((file_name(alloc)?, None))?;
-    Ok(Items::of(known))
+    let name = file_name(alloc)?;
+    Ok(Items::of(behind(Vec::new(alloc), Ok((name, None)))?))
 }
 
 /// What a configuration has of a realm `file`.
@@ -140,93 +148,16 @@ struct FileParts {
     realms: Vec<RealmConfig>,
 }
 
-/// One realm `file` of users and groups.
-fn file_realms(alloc: Global, users: &[u8], groups: &[u8]) -> Result<Vec<RealmConfig>, NoMemory> {
-    let mut realms = Vec::with_capacity(alloc, 1)?;
-    let realm = file_realm(alloc, users, groups)?;
-    match realms.push(realm) {
-        Ok(()) => Ok(realms),
-        Err(_) => {
-            discard(realms);
-            Err(NoMemory)
-        }
-    }
-}
-
-/// What a configuration has whose one realm is `file`. What owns most is made last.
+/// What a configuration has whose one realm is `file`.
 fn file_parts(alloc: Global, users: &[u8], groups: &[u8]) -> Result<FileParts, NoMemory> {
-    let name = file_name(alloc)?;
-    let known = known_file(alloc)?;
-    let realms = file_realms(alloc, users, groups)?;
+    let names = beside(file_name(alloc)?, known_file(alloc))?;
+    let realms = behind(Vec::new(alloc), file_realm(alloc, users, groups));
+    let ((name, known), realms) = beside(names, realms)?;
     Ok(FileParts {
         name,
         known,
         realms,
     })
-}
-
-/// The members with these parts in place of their realms.
-fn with_parts(members: Members, parts: FileParts) -> Members {
-    let FileParts {
-        name,
-        known,
-        realms,
-    } = parts;
-    let Members {
-        digest_realm,
-        params,
-        pipeline,
-        realms: no_realms,
-        role_mapper,
-        permissions,
-    } = members;
-    discard(no_realms);
-    let Pipeline {
-        decoder,
-        pre,
-        mapper,
-        default_realm,
-        post,
-        realms: not_known,
-    } = pipeline;
-    discard(default_realm);
-    discard(not_known);
-    Members {
-        digest_realm,
-        params,
-        pipeline: Pipeline {
-            decoder,
-            pre,
-            mapper,
-            default_realm: name,
-            post,
-            realms: known,
-        },
-        realms: Items::of(realms),
-        role_mapper,
-        permissions,
-    }
-}
-
-/// The members with this realm of Digest.
-fn with_digest_realm(members: Members, realm: Bytes) -> Members {
-    let Members {
-        digest_realm,
-        params,
-        pipeline,
-        realms,
-        role_mapper,
-        permissions,
-    } = members;
-    discard(digest_realm);
-    Members {
-        digest_realm: realm,
-        params,
-        pipeline,
-        realms,
-        role_mapper,
-        permissions,
-    }
 }
 
 /// A configuration with this realm of Digest and one realm, which is `main` or one of users and groups.
@@ -236,17 +167,21 @@ fn config(
     texts: Option<(&[u8], &[u8])>,
 ) -> Result<Config, NoMemory> {
     let realm = Bytes::copy_of(alloc, digest_realm)?;
-    let members = with_digest_realm(Members::plain(alloc)?, realm);
+    let (realm, mut members) = beside(realm, Members::plain(alloc))?;
+    put(&mut members.digest_realm, realm);
     let Some((users, groups)) = texts else {
         return config_of(alloc, members);
     };
-    match file_parts(alloc, users, groups) {
-        Ok(parts) => config_of(alloc, with_parts(members, parts)),
-        Err(NoMemory) => {
-            discard(members);
-            Err(NoMemory)
-        }
-    }
+    let (mut members, parts) = beside(members, file_parts(alloc, users, groups))?;
+    let FileParts {
+        name,
+        known,
+        realms,
+    } = parts;
+    put(&mut members.pipeline.default_realm, name);
+    put(&mut members.pipeline.realms, known);
+    put(&mut members.realms, Items::of(realms));
+    config_of(alloc, members)
 }
 
 /// What the script prints under the configuration.
@@ -449,8 +384,7 @@ fn checked<L: Ledger>(
     requires some { 0 < blank.parts }
 {
     let mut steps = Steps::<L>::of(blank);
-    let setup = Setup::of(Config::plain(alloc)?);
-    let mut domain = Domain::new(alloc, setup.config, setup.journal_limit)?;
+    let mut domain = domain_of(alloc, Config::plain(alloc)?)?;
     let last = last_told(alloc, &mut domain, reopened, &mut steps);
     let state = domain.state(CtxId(1));
     discard(domain);
