@@ -23,16 +23,12 @@ fn name(alloc: Global, text: &[u8]) -> Result<Name, NoMemory> {
 
 /// A realm of this name and kind.
 fn realm(alloc: Global, text: &[u8], kind: RealmKind) -> Result<RealmConfig, NoMemory> {
-    let (kind, name) = beside(kind, name(alloc, text))?;
-    let role_attribute = Vec::from_slice(alloc, b"groups");
-    let ((kind, name), role_attribute) = beside(
-        (kind, name),
-        role_attribute.map_err(|_| NoMemory),
-    )?;
+    let named = beside(kind, name(alloc, text))?;
+    let ((kind, name), role_attribute) = beside(named, name(alloc, b"groups"))?;
     Ok(RealmConfig {
         name,
         kind,
-        role_attribute: Name::of(role_attribute),
+        role_attribute,
         role_mapper: None,
     })
 }
@@ -233,6 +229,11 @@ const TOUCHED: &[u8] = b"1 0 1 add ok 1
 33 0 21 name1 unknown
 ";
 
+/// What the script prints under a configuration of these realms.
+fn printed(alloc: Global, which: Realms, script: &[u8]) -> Result<Vec<u8>, NoMemory> {
+    counted::<Brand>(Blank::new(1), alloc, config(alloc, which)?, script)
+}
+
 #[test]
 fn a_key_is_found_until_an_edit_touches_it_or_others_push_it_out(
     rt: HostRuntime,
@@ -243,8 +244,7 @@ fn a_key_is_found_until_an_edit_touches_it_or_others_push_it_out(
         (Realms::Joined, EDITED, TOUCHED),
     ];
     for (which, script, text) in rows {
-        let config = config(rt.alloc(), which)?;
-        let said = counted::<Brand>(Blank::new(1), rt.alloc(), config, script)?;
+        let said = printed(rt.alloc(), which, script)?;
         assert!(rt; said.as_slice() == text);
     }
     Ok(())
@@ -447,6 +447,11 @@ fn played<L: Ledger>(blank: Blank, alloc: Global, moves: &[Move<'_>]) -> Result<
     Ok(out)
 }
 
+/// The same with a counter of its own.
+fn moved(alloc: Global, moves: &[Move<'_>]) -> Result<Vec<u8>, NoMemory> {
+    played::<Brand>(Blank::new(1), alloc, moves)
+}
+
 /// Two lines of edits and an open, which print three steps.
 const ADD: Move<'_> = Move::Line(b"0 add main user");
 
@@ -545,7 +550,7 @@ fn a_late_fill_is_kept_nowhere(rt: HostRuntime) -> Result<(), Fail> {
         (&OTHERS, OTHERS_TEXT),
     ];
     for (moves, text) in rows {
-        let said = played::<Brand>(Blank::new(1), rt.alloc(), moves)?;
+        let said = moved(rt.alloc(), moves)?;
         assert!(rt; said.as_slice() == text);
     }
     Ok(())
