@@ -28,6 +28,3 @@ pub use texts::{
     TextFault, is_base64, push_base64, read_base64, read_hex, write_base64, write_hex,
 };
 pub use word::{push_word, read_word, write_word};
-
-#[cfg(test)]
-mod tests;

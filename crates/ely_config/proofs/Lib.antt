@@ -1,3 +1,4 @@
 pub mod RealmLemmas
 pub mod RealmNames
+pub mod ReferenceLemmas
 pub mod Targets

@@ -1,5 +1,5 @@
 -- Realms with the same names, in the same order.
-use Rattle.std.proofs.Common.{◌≡◌, ℕ, ◌&&◌, Bool, List, [], ◌∷◌, length, map, bytes_eq, refl, ap, arith}
+use Rattle.std.proofs.Common.{◌≡◌, ℕ, ◌&&◌, List, [], ◌∷◌, length, map, bytes_eq, refl, ap, arith}
 use Rattle.std.specs.Prelude.{zip}
 use Rattle.std.specs.List.{list_all}
 use lib.Pointwise.{pointwise}

@@ -1,16 +1,15 @@
 -- Names are led to realms that are there.
-use Rattle.std.proofs.Common.{◌≡◌, ℕ, ◌+◌, Bool, true, false, not, ◌&&◌, ◌||◌, cond, List, [], ◌∷◌, map, Option, Some, None, Result, Ok, Err, refl, sym, ap, subst, ◌∙◌, bytes_eq}
+use Rattle.std.proofs.Common.{◌≡◌, ℕ, ◌+◌, Bool, true, false, not, ◌&&◌, ◌||◌, cond, List, [], ◌∷◌, map, Option, Some, None, Result, Ok, Err, refl, sym, ap, ◌∙◌, bytes_eq}
 use Rattle.std.specs.Prelude.{find, option_and_then, unwrap_or, IsSome}
 use Rattle.std.specs.List.{list_any, position_from}
 use Rattle.std.specs.Map.{lookup}
-use Rattle.std.specs.Option.{option_map, option_or, ok_or}
+use Rattle.std.specs.Option.{option_map, ok_or}
 use Rattle.std.proofs.lemmas.Bool.{and_parts}
 use Rattle.std.proofs.lemmas.Iterator.Adapters.{position_from-zero}
 use Rattle.std.proofs.lemmas.Slice.Eq.{bytes_eq-Decides, slice_eq-Decides}
 use Rattle.ely_base.specs.Refused.{◌>>=◌}
 use Rattle.ely_pipeline.specs.declared.mapper.RealmMapper.{RealmMapper}
 use Rattle.ely_pipeline.specs.declared.mapper.RealmMapper.TheVariants.{Constant, MapAfter, TakeAfter}
-use Rattle.ely_pipeline.specs.declared.place.PipeFault.{PipeFault}
 use Rattle.ely_pipeline.specs.declared.place.PipeFault.TheVariants.{Undecoded, PreRealm, PostRealm, RealmStep, NoRealm}
 use Rattle.ely_pipeline.specs.declared.place.Place.{Place}
 use Rattle.ely_pipeline.specs.declared.pipeline.Pipeline.{Pipeline}
@@ -22,7 +21,8 @@ use Rattle.ely_pipeline.specs.Places.{after_stage, place_of}
 use Rattle.ely_config.specs.declared.members.Members.{Members}
 use Rattle.ely_config.specs.declared.realm.RealmConfig.{RealmConfig}
 use Rattle.ely_config.specs.declared.fault.ConfigFault.TheVariants as faults
-use Rattle.ely_config.specs.Configs.{unless, names_of, knows, is_named, bounds_fault, realms_fault, missing_realm, target_fault, config_fault, IsSound, realm_named}
+use Rattle.ely_config.specs.Realms.{is_named, realm_named, realms_fault}
+use Rattle.ely_config.specs.Configs.{names_of, knows, bounds_fault, missing_realm, config_fault, IsSound}
 use Rattle.ely_config.proofs.RealmLemmas.{none_parts, passed}
 
 some_is_none : {A : Type 0} {x : A} → ◌≡◌ {A = Option A} (Some x) None → ⊥
@@ -151,7 +151,7 @@ places_there members name place sound is =
     let bounds = none_parts _ _ (none_parts _ _ parts.0).1 in
     let pipeline = passed (pipeline_fits members.pipeline && knows members.pipeline members.realms) faults.Pipeline (none_parts _ _ bounds.1).0 in
     let names = (slice_eq-Decides bytes_eq-Decides (map (λ realm. realm.0) members.pipeline.realms) (names_of members.realms) (knows members.pipeline members.realms) refl).0 (and_parts _ _ pipeline).1 in
-    let targets = none_parts _ _ (none_parts (realms_fault members.digest_realm [] members.realms) _ parts.1).1 in
+    let targets = none_parts _ _ (none_parts (realms_fault members.digest_realm members.realms [] members.realms) _ parts.1).1 in
     let led = place_in members.pipeline name place is in
     named_found members.realms place.realm (
     realm_there members.realms members.pipeline.realms members.pipeline.default_realm (passed _ faults.DefaultRealm targets.0) names

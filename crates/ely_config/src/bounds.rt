@@ -2,12 +2,14 @@
 
 ghost use Rattle.std.specs.Prelude.{◌≡◌, not, position};
 ghost use Rattle.std.specs.Option.{option_copied};
-ghost use Rattle.ely_config.specs.Configs.{are_few, knows, bounds_fault, is_named, missing_realm, target_fault};
+ghost use Rattle.ely_config.specs.Realms.{are_few, is_named};
+ghost use Rattle.ely_config.specs.Configs.{knows, bounds_fault, missing_realm, target_fault};
 
 use crate::fault::ConfigFault;
 use crate::members::Members;
 use crate::realm::RealmConfig;
-use crate::realm_faults::{is_named, mapper_fits};
+use crate::realm_faults::mapper_fits;
+use crate::references::is_named;
 use ely_base::Name;
 use ely_pipeline::{Pipeline, RealmMapper};
 use ely_row::is_realm;

@@ -3,13 +3,15 @@
 ghost use Rattle.std.specs.Prelude.{◌≡◌, IfOk};
 ghost use Rattle.std.specs.Option.{option_copied};
 ghost use Rattle.ely_base.specs.Refused.{Gives};
-ghost use Rattle.ely_config.specs.Configs.{plain_config, config_fault, config_of, realm_named, AreSound};
+ghost use Rattle.ely_config.specs.Realms.{realm_named, AreSound};
+ghost use Rattle.ely_config.specs.Configs.{plain_config, config_fault, config_of};
 
 use crate::bounds::{bounds_fault, target_fault};
 use crate::fault::ConfigFault;
-use crate::members::Members;
+use crate::members::{Members, discard};
 use crate::realm::RealmConfig;
 use crate::realm_faults::realms_fault;
+use crate::references::realm_named;
 use ely_base::{Bytes, Name, NoMemory, Refused};
 use ely_perm::Permissions;
 use ely_pipeline::Pipeline;
@@ -58,10 +60,17 @@ impl Config {
     pub fn of(alloc: Global, members: Members) -> Result<Config, Refused<ConfigFault>>
         ensures { Gives result (config_of members) }
     {
-        if let Some(fault) = config_fault(alloc, &members)? {
-            return Err(Refused::Fault(fault));
+        match config_fault(alloc, &members) {
+            Ok(None) => Ok(Config { members }),
+            Ok(Some(fault)) => {
+                discard(members);
+                Err(Refused::Fault(fault))
+            }
+            Err(NoMemory) => {
+                discard(members);
+                Err(Refused::NoMemory)
+            }
         }
-        Ok(Config { members })
     }
 
     /// What holds where nothing is said.
@@ -121,7 +130,7 @@ impl Config {
     pub fn realm_named(&self, name: &Name) -> Option<&RealmConfig>
         ensures { option_copied result ≡ realm_named self.now.realms name.now }
     {
-        self.realms().iter().find(|realm| realm.name.is(name))
+        realm_named(self.realms(), name)
     }
 
     /// An equal configuration.

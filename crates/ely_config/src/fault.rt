@@ -2,6 +2,17 @@
 
 use ely_row::PropFault;
 
+/// Which reference of a realm to another.
+#[derive(Clone, Copy, Debug, PartialEq, Eq)]
+pub enum Reference {
+    /// To the realm that an aggregate has its credentials of.
+    Authentication,
+    /// To a realm that an aggregate has attributes of, by its number, counted from 0.
+    Authorization(usize),
+    /// To the realm that a caching one keeps keys for.
+    Of,
+}
+
 /// Why a realm isn't taken.
 #[derive(Clone, Copy, Debug, PartialEq, Eq)]
 pub enum RealmFault {
@@ -9,6 +20,15 @@ pub enum RealmFault {
     Twice,
     /// Its role mapper nests too deep, or a list in it is too long.
     RoleMapper,
+    /// An aggregate names no realm for attributes, or more than 15.
+    Authorization,
+    /// A cache is to keep no key, or more than 65,536.
+    Limit,
+    /// No realm has the name.
+    Unknown(Reference),
+    /// The realm that is named can't stand there: an aggregate is of realms that have identities of their own, and a caching realm
+    /// isn't of a caching one.
+    Nested(Reference),
     /// The text of its users is faulty.
     Users(PropFault),
     /// The text of its groups is faulty.

@@ -10,12 +10,10 @@ mod laws;
 mod members;
 mod realm;
 mod realm_faults;
+mod references;
 
 pub use config::Config;
-pub use fault::{ConfigFault, RealmFault};
-pub use laws::places_are_in_realms_that_are_there;
+pub use fault::{ConfigFault, RealmFault, Reference};
+pub use laws::{limits_are_kept, places_are_in_realms_that_are_there, references_are_there};
 pub use members::Members;
 pub use realm::{RealmConfig, RealmKind};
-
-#[cfg(test)]
-mod tests;

@@ -28,6 +28,11 @@ pub struct Members {
     pub permissions: Permissions,
 }
 
+/// Lets a value go. What owns much is let go here, since the prover looks into each drop wherever it stands.
+pub(crate) fn discard<D: Drop>(value: D) {
+    let _ = value;
+}
+
 /// The pipeline that leads each name, as it is, to the realm `main`.
 fn plain_pipeline(alloc: Global) -> Result<Pipeline, NoMemory>
     ensures { IfOk result (λ pipe. pipe ≡ plain_pipeline) }
@@ -35,12 +40,12 @@ fn plain_pipeline(alloc: Global) -> Result<Pipeline, NoMemory>
     let mut realms = Vec::new(alloc);
     realms.push((Name::of(Vec::from_slice(alloc, b"main")?), None))?;
     Ok(Pipeline {
+        default_realm: Name::of(Vec::from_slice(alloc, b"main")?),
+        realms: Items::of(realms),
         decoder: None,
         pre: None,
         mapper: None,
-        default_realm: Name::of(Vec::from_slice(alloc, b"main")?),
         post: None,
-        realms: Items::of(realms),
     })
 }
 

@@ -2,9 +2,10 @@
 
 ghost use Rattle.std.specs.Prelude.{◌≡◌, IfOk};
 ghost use Rattle.std.specs.Option.{option_copied};
+ghost use Rattle.ely_config.specs.declared.realm.RealmKind.TheVariants.{Properties, Aggregate, Caching};
 ghost use Rattle.ely_config.specs.Configs.{main_realm};
 
-use ely_base::{Bytes, Name, NoMemory};
+use ely_base::{Bytes, Items, Name, NoMemory, copy_names};
 use ely_roles::RoleMapper;
 use std::alloc::Global;
 
@@ -20,6 +21,56 @@ pub enum RealmKind {
         users: Bytes,
         groups: Bytes,
     },
+    /// They have the credentials of one realm and the attributes of others, of which the first that has an attribute gives it.
+    Aggregate {
+        authentication: Name,
+        authorization: Items<Name>,
+    },
+    /// They are those of another realm, and the keys that were derived for them are kept, as many as the limit says.
+    Caching {
+        of: Name,
+        limit: u32,
+    },
+}
+
+/// An equal kind of a realm of two texts.
+fn copy_properties(
+    alloc: Global,
+    plain: bool,
+    users: &Bytes,
+    groups: &Bytes,
+) -> Result<RealmKind, NoMemory>
+    ensures { IfOk result (λ copy. copy ≡ Properties plain users.now groups.now) }
+{
+    Ok(RealmKind::Properties {
+        plain,
+        users: users.copy(alloc)?,
+        groups: groups.copy(alloc)?,
+    })
+}
+
+/// An equal kind of a realm of others.
+fn copy_aggregate(
+    alloc: Global,
+    authentication: &Name,
+    authorization: &[Name],
+) -> Result<RealmKind, NoMemory>
+    ensures { IfOk result (λ copy. copy ≡ Aggregate authentication.now authorization.now) }
+{
+    Ok(RealmKind::Aggregate {
+        authentication: authentication.copy(alloc)?,
+        authorization: Items::of(copy_names(alloc, authorization)?),
+    })
+}
+
+/// An equal kind of a caching realm.
+fn copy_caching(alloc: Global, of: &Name, limit: u32) -> Result<RealmKind, NoMemory>
+    ensures { IfOk result (λ copy. copy ≡ Caching of.now limit) }
+{
+    Ok(RealmKind::Caching {
+        of: of.copy(alloc)?,
+        limit,
+    })
 }
 
 impl RealmKind {
@@ -33,11 +84,12 @@ impl RealmKind {
                 plain,
                 users,
                 groups,
-            } => Ok(RealmKind::Properties {
-                plain: *plain,
-                users: users.copy(alloc)?,
-                groups: groups.copy(alloc)?,
-            }),
+            } => copy_properties(alloc, *plain, users, groups),
+            RealmKind::Aggregate {
+                authentication,
+                authorization,
+            } => copy_aggregate(alloc, authentication, authorization.all()),
+            RealmKind::Caching { of, limit } => copy_caching(alloc, of, *limit),
         }
     }
 }
@@ -73,8 +125,8 @@ impl RealmConfig {
     {
         Ok(RealmConfig {
             name: Name::of(Vec::from_slice(alloc, b"main")?),
-            kind: RealmKind::Modifiable,
             role_attribute: Name::of(Vec::from_slice(alloc, b"groups")?),
+            kind: RealmKind::Modifiable,
             role_mapper: None,
         })
     }
@@ -85,8 +137,8 @@ impl RealmConfig {
     {
         Ok(RealmConfig {
             name: self.name.copy(alloc)?,
-            kind: self.kind.copy(alloc)?,
             role_attribute: self.role_attribute.copy(alloc)?,
+            kind: self.kind.copy(alloc)?,
             role_mapper: copy_mapper(alloc, self.role_mapper.as_ref())?,
         })
     }

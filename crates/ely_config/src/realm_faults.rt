@@ -3,10 +3,11 @@
 ghost use Rattle.std.specs.Prelude.{◌≡◌, [], IfOk, IsTrue};
 ghost use Rattle.std.specs.Option.{option_copied};
 ghost use Rattle.ely_row.specs.Salts.{is_realm};
-ghost use Rattle.ely_config.specs.Configs.{texts_fault, kind_fault, is_named, mapper_fits, realm_fault, realms_fault};
+ghost use Rattle.ely_config.specs.Realms.{texts_fault, kind_fault, mapper_fits, realm_fault, realms_fault};
 
 use crate::fault::{ConfigFault, RealmFault};
 use crate::realm::{RealmConfig, RealmKind};
+use crate::references::{aggregate_fault, caching_fault, is_named};
 use ely_base::{Bytes, Name, NoMemory, Refused};
 use ely_propfile::{read_groups, read_users};
 use ely_roles::RoleMapper;
@@ -35,14 +36,15 @@ fn texts_fault(
     }
 }
 
-/// Why a realm of this kind isn't taken.
+/// Why a realm of this kind isn't taken among all these.
 fn kind_fault(
     alloc: Global,
     digest_realm: &Bytes,
+    all: &[RealmConfig],
     kind: &RealmKind,
 ) -> Result<Option<RealmFault>, NoMemory>
     requires { IsTrue (is_realm digest_realm.now) }
-    ensures { IfOk result (λ fault. fault ≡ kind_fault digest_realm.now kind.now) }
+    ensures { IfOk result (λ fault. fault ≡ kind_fault digest_realm.now all.now kind.now) }
 {
     match kind {
         RealmKind::Modifiable => Ok(None),
@@ -51,14 +53,12 @@ fn kind_fault(
             users,
             groups,
         } => texts_fault(alloc, digest_realm, *plain, users, groups),
+        RealmKind::Aggregate {
+            authentication,
+            authorization,
+        } => Ok(aggregate_fault(all, authentication, authorization.all())),
+        RealmKind::Caching { of, limit } => Ok(caching_fault(all, of, *limit)),
     }
-}
-
-/// Whether one of the realms has this name.
-pub(crate) fn is_named(realms: &[RealmConfig], name: &Name) -> bool
-    ensures { result ≡ is_named realms.now name.now }
-{
-    realms.iter().any(|realm| realm.name.is(name))
 }
 
 /// Whether the role mapper is within its bounds, where there is one.
@@ -71,15 +71,16 @@ pub(crate) fn mapper_fits(mapper: Option<&RoleMapper>) -> bool
     }
 }
 
-/// Why a realm isn't taken behind these.
+/// Why a realm isn't taken among all these and behind those before it.
 fn realm_fault(
     alloc: Global,
     digest_realm: &Bytes,
+    all: &[RealmConfig],
     before: &[RealmConfig],
     realm: &RealmConfig,
 ) -> Result<Option<RealmFault>, NoMemory>
     requires { IsTrue (is_realm digest_realm.now) }
-    ensures { IfOk result (λ fault. fault ≡ realm_fault digest_realm.now before.now realm.now) }
+    ensures { IfOk result (λ fault. fault ≡ realm_fault digest_realm.now all.now before.now realm.now) }
 {
     if is_named(before, &realm.name) {
         return Ok(Some(RealmFault::Twice));
@@ -87,7 +88,7 @@ fn realm_fault(
     if !mapper_fits(realm.role_mapper.as_ref()) {
         return Ok(Some(RealmFault::RoleMapper));
     }
-    kind_fault(alloc, digest_realm, &realm.kind)
+    kind_fault(alloc, digest_realm, all, &realm.kind)
 }
 
 /// Why one of the realms isn't taken, the first of them.
@@ -97,11 +98,11 @@ pub(crate) fn realms_fault(
     realms: &[RealmConfig],
 ) -> Result<Option<ConfigFault>, NoMemory>
     requires { IsTrue (is_realm digest_realm.now) }
-    ensures { IfOk result (λ fault. fault ≡ realms_fault digest_realm.now [] realms.now) }
+    ensures { IfOk result (λ fault. fault ≡ realms_fault digest_realm.now realms.now [] realms.now) }
 {
     let mut at = 0;
     while let Some(realm) = realms.get(at) {
-        if let Some(fault) = realm_fault(alloc, digest_realm, &realms[..at], realm)? {
+        if let Some(fault) = realm_fault(alloc, digest_realm, realms, &realms[..at], realm)? {
             return Ok(Some(ConfigFault::Realm { at, fault }));
         }
         at += 1;

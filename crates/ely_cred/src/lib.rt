@@ -13,6 +13,3 @@ pub use choosing::{choose, chosen_entry};
 pub use derived::derive;
 pub use guessing::guess;
 pub use key::{Ready, ReadyKey};
-
-#[cfg(test)]
-mod tests;

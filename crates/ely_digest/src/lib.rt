@@ -13,6 +13,3 @@ pub use digits::is_hex_of;
 pub use ely_hash::ha1;
 pub use nonce_table::{IssueFault, NonceTable, SpendFault};
 pub use response::response_of;
-
-#[cfg(test)]
-mod tests;

@@ -23,6 +23,3 @@ pub use header::{DigestAlg, HeaderView, scan_authorization};
 pub use quoted::Quoted;
 pub use quoted_name::QuotedName;
 pub use reply::{DigestReply, read_authorization};
-
-#[cfg(test)]
-mod tests;

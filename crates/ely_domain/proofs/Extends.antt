@@ -1,22 +1,27 @@
 -- A history of lines goes on where the lines do.
-use Rattle.std.proofs.Common.{◌≡◌, ℕ, ◌+◌, Bool, true, false, cond, List, [], ◌∷◌, ◌++◌, map, Option, Some, None, refl, sym, ap, subst, ◌∙◌, append_assoc, append-nil, arith}
+use Rattle.std.proofs.Common.{◌≡◌, ℕ, ◌+◌, Bool, true, false, cond, List, [], ◌∷◌, ◌++◌, map, Option, Some, None, refl, sym, ap, ap₂, subst, ◌∙◌, append_assoc, append-nil, arith}
 use Rattle.std.proofs.lemmas.List.{map-append}
 use Rattle.ely_script.specs.declared.outcome.Outcome.{Outcome}
-use Rattle.ely_script.specs.declared.outcome.Outcome.TheVariants as outcomes
 use Rattle.ely_script.specs.declared.word.CacheWord.{CacheWord}
 use Rattle.ely_script.specs.Lines.{ScriptLine}
 use Rattle.ely_script.specs.Outcomes.{is_accepted}
 use Rattle.ely_domain.specs.declared.event.Event.{Event}
+use Rattle.ely_domain.specs.declared.event.Event.TheVariants as events
+use Rattle.ely_script.specs.declared.word.CacheWord.TheVariants as words
 use Rattle.ely_domain.specs.Costs.{cost_from}
 use Rattle.ely_domain.specs.Given.{Given}
 use Rattle.ely_domain.specs.Headline.{IsHistoryOf}
 use Rattle.ely_domain.specs.Histories.{IsRun, machine_after}
-use Rattle.ely_domain.specs.Keeping.{Kept, word_due, stands_for, kept_after, first_kept}
+use Rattle.ely_domain.specs.Identities.{Known, deps}
+use Rattle.ely_domain.specs.Keeping.{Kept, Meaning, Nothing, Begins, Ends, found_at, meaning, sought, word_by, word_on, word_due, kept_after, first_kept}
+use Rattle.ely_domain.specs.KeptKeys.{Key, RealmKeys, has_key, is_miss, list_of, stands_for, word_after, word_in}
+use Rattle.ely_domain.specs.Logins.{Live}
+use Rattle.ely_table.specs.Touching.{touched_since}
 use Rattle.ely_domain.specs.Legal.{IsWhole}
 use Rattle.ely_domain.specs.Lines.{Taken, Ran, taken, after_first, after_event, carried_after, run_parts, ran, AreShown, kept_past}
-use Rattle.ely_domain.specs.Machine.{Machine, first_machine, step}
+use Rattle.ely_domain.specs.Machine.{Machine, first_machine, known, step}
 use Rattle.ely_domain.specs.Parts.{Part, actor_of, parts_of, event_of}
-use Rattle.ely_domain.specs.Replays.{Made, Told, made_by, told_by, made_of, steps_of, steps_told, kept_told, own_count, replayed_after, replayed}
+use Rattle.ely_domain.specs.Replays.{Made, Told, made_by, told_by, made_of, steps_of, steps_told, words_told, kept_told, own_count, replayed_after, replayed}
 use Rattle.ely_domain.proofs.FileOrder.{ordered_from}
 use Rattle.ely_domain.proofs.GetsIn.{pinned_in_runs, proved_in_runs, authorized_in_runs, established_in_runs, by_right_in_runs, allowed_in_runs}
 use Rattle.ely_domain.proofs.Whole.{whole_next, whole_none}
@@ -124,9 +129,23 @@ machine_after-append : (given : Given) (m : Machine) (xs ys : List Taken) → ma
 machine_after-append given m [] ys = refl
 machine_after-append given m (x ∷ xs) ys = machine_after-append given (step given m x.event).1 xs ys
 
-cost_from-append : (given : Given) (m : Machine) (xs ys : List Taken) → cost_from given m (xs ++ ys) ≡ cost_from given m xs + cost_from given (machine_after given m xs) ys
-cost_from-append given m [] ys = omega arith
-cost_from-append given m (x ∷ xs) ys = omega (arith, cost_from-append given (step given m x.event).1 xs ys)
+-- what steps cost that are told, and others behind them
+cost_from-append : (given : Given) (m : Machine) (k : Kept) (xs ys : List Told)
+    → cost_from given m k (steps_told (xs ++ ys)) (words_told (xs ++ ys))
+    ≡ cost_from given m k (steps_told xs) (words_told xs)
+    + cost_from given (machine_after given m (steps_told xs)) (kept_told given m k xs) (steps_told ys) (words_told ys)
+cost_from-append given m k [] ys = omega arith
+cost_from-append given m k (x ∷ xs) ys =
+    omega (arith, cost_from-append given (step given m x.made.taken.event).1 (kept_after given m k x.made.taken.event x.made.taken.outcome x.shown) xs ys)
+
+-- where words are shown behind all steps, they are all told
+words_told-next : (given : Given) (m : Machine) (k : Kept) (actor n : ℕ) (ts : List Taken) (shown : List CacheWord) → AreShown given m k ts shown
+    → words_told (told_by actor n ts shown) ≡ shown
+words_told-next given m k actor n [] [] are = refl
+words_told-next given m k actor n [] (w ∷ ws) are = absurd are
+words_told-next given m k actor n (t ∷ ts) [] are = absurd are
+words_told-next given m k actor n (t ∷ ts) (w ∷ ws) are =
+    ap (λ words. w ∷ words) (words_told-next given (step given m t.event).1 (kept_after given m k t.event t.outcome w) actor n ts ws are.1)
 
 steps_told-append : (xs ys : List Told) → steps_told (xs ++ ys) ≡ steps_told xs ++ steps_told ys
 steps_told-append xs ys = map-append (λ (x : Told). x.made.taken) xs ys
@@ -187,12 +206,15 @@ module _ (given : Given) (lines : List ScriptLine) (h : List Told) (line : Scrip
       ∙ (ran_is_run given m line).1
 
   pub cost_next : AreShown given m k (ran given m line).0 shown
-      → cost_from given (first_machine given) (steps_told (h ++ told_next given lines h line shown))
-      ≡ cost_from given (first_machine given) (steps_told h) + cost_from given m (ran given m line).0
+      → cost_from given (first_machine given) (first_kept given) (steps_told (h ++ told_next given lines h line shown)) (words_told (h ++ told_next given lines h line shown))
+      ≡ cost_from given (first_machine given) (first_kept given) (steps_told h) (words_told h) + cost_from given m k (ran given m line).0 shown
   cost_next are =
-      ap (cost_from given (first_machine given)) (steps_told-append h (told_next given lines h line shown)
-      ∙ ap (λ ts. steps_told h ++ ts) (steps_told-next given m k (actor_of line) (own_count (actor_of line) lines + 1) (ran given m line).0 shown are))
-      ∙ cost_from-append given (first_machine given) (steps_told h) (ran given m line).0
+      let next = told_next given lines h line shown in
+      let n = own_count (actor_of line) lines + 1 in
+      let steps = steps_told-next given m k (actor_of line) n (ran given m line).0 shown are in
+      let words = words_told-next given m k (actor_of line) n (ran given m line).0 shown are in
+      cost_from-append given (first_machine given) (first_kept given) h next
+      ∙ ap₂ (λ ts ws. cost_from given (first_machine given) (first_kept given) (steps_told h) (words_told h) + cost_from given m k ts ws) steps words
 
 -- what is kept after what a line makes
 kept_line : (given : Given) (m : Machine) (k : Kept) (actor n : ℕ) (ts : List Taken) (shown : List CacheWord) → AreShown given m k ts shown
@@ -220,9 +242,48 @@ kept_next given lines h line shown are =
 -- ---- more lines
 
 -- a word that is due stands for itself
+in_stands : (list : Option RealmKeys) (key : Key) → stands_for (word_in list key) ≡ word_in list key
+in_stands None key = refl
+in_stands (Some l) key = by (has_key key l.keys)
+  where
+    by : (b : Bool) → stands_for (cond b words.Hit words.Miss) ≡ cond b words.Hit words.Miss
+    by true = refl
+    by false = refl
+
+after_stands : (found : CacheWord) (touched : Bool) → stands_for (word_after found touched) ≡ word_after found touched
+after_stands found touched = by (is_miss found) touched
+  where
+    by : (b touched : Bool) → stands_for (cond b (cond touched words.Late words.Kept) words.Dash) ≡ cond b (cond touched words.Late words.Kept) words.Dash
+    by true true = refl
+    by true false = refl
+    by false touched = refl
+
+by_stands : (known : Known) (lists : List RealmKeys) (found : CacheWord) (meaning : Meaning) → stands_for (word_by known lists found meaning) ≡ word_by known lists found meaning
+by_stands known lists found Nothing = refl
+by_stands known lists found (Begins mech pin) = in_stands (list_of lists pin.place.realm) (sought mech pin)
+by_stands known lists found (Ends mech pin) = after_stands found (touched_since known.edits pin.version (deps known pin.place))
+
+on_stands : (known : Known) (live : Live) (k : Kept) (c : ℕ) (event : Event) (outcome : Outcome) → stands_for (word_on known live k c event outcome) ≡ word_on known live k c event outcome
+on_stands known live k c event outcome = by (is_accepted outcome) (by_stands known k.lists (found_at k.founds c) (meaning known live c event))
+  where
+    by : (b : Bool) {word : CacheWord} → stands_for word ≡ word → stands_for (cond b word words.None) ≡ cond b word words.None
+    by true h = h
+    by false h = refl
+
 due_stands : (given : Given) (m : Machine) (k : Kept) (event : Event) (outcome : Outcome)
     → stands_for (word_due given m k event outcome) ≡ word_due given m k event outcome
-due_stands given m k event = elim [ outcomes.Pinned version ↦ refl | outcomes.Named ↦ refl | outcomes.Challenge text ↦ refl | _ ↦ refl ]
+due_stands given m k (events.Name1 c claim) outcome = on_stands (known given m) m.live k c (events.Name1 c claim) outcome
+due_stands given m k (events.Name2 c serial brought) outcome = on_stands (known given m) m.live k c (events.Name2 c serial brought) outcome
+due_stands given m k (events.Bad bad) outcome = refl
+due_stands given m k (events.Change edit) outcome = refl
+due_stands given m k (events.Begin c mech brought) outcome = refl
+due_stands given m k (events.Check1 c serial evidence) outcome = refl
+due_stands given m k (events.Check2 c serial brought) outcome = refl
+due_stands given m k (events.Authorize c) outcome = refl
+due_stands given m k (events.Allows c wanted) outcome = refl
+due_stands given m k (events.Succeed c) outcome = refl
+due_stands given m k (events.Fail c) outcome = refl
+due_stands given m k (events.Close c) outcome = refl
 
 -- the words that are due behind steps
 abbrev pub words_due : Given → Machine → Kept → List Taken → List CacheWord

@@ -1,5 +1,5 @@
 -- What a naming finds.
-use Rattle.std.proofs.Common.{◌≡◌, ℕ, true, false, List, length, Option, Some, None, Result, Ok, Err, refl, ap}
+use Rattle.std.proofs.Common.{◌≡◌, ℕ, true, false, length, Option, Some, None, Result, Ok, Err, refl, ap}
 use Rattle.std.specs.Prelude.{IsSome}
 use Rattle.std.specs.Option.{ok_or}
 use Rattle.ely_base.specs.declared.refused.Refused.{Refused}
@@ -15,7 +15,7 @@ use Rattle.ely_script.specs.declared.outcome.Outcome.{Outcome}
 use Rattle.ely_script.specs.declared.outcome.Outcome.TheVariants as outcomes
 use Rattle.ely_domain.specs.declared.naming.Found.{Found}
 use Rattle.ely_domain.specs.Contexts.{Finds}
-use Rattle.ely_domain.specs.Given.{Given, place_of}
+use Rattle.ely_domain.specs.Given.{place_of}
 use Rattle.ely_domain.specs.Identities.{Known, ident}
 use Rattle.ely_domain.specs.Steps.{claimed_name, is_other, is_claim_of, serving, naming}
 

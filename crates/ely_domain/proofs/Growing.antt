@@ -1,22 +1,20 @@
 -- What a further edit leaves as it was.
-use Rattle.std.proofs.Common.{◌≡◌, ℕ, ◌≤◌, List, [], ◌∷◌, ◌++◌, length, Option, Some, sym, ap, ◌∙◌, arith}
+use Rattle.std.proofs.Common.{◌≡◌, ℕ, ◌≤◌, List, [], ◌∷◌, ◌++◌, length, Option, Some, None, sym, ap, ◌∙◌, arith}
+use Rattle.std.specs.Prelude.{IfSome}
 use Rattle.std.specs.Option.{option_and_then}
 use Rattle.std.proofs.lemmas.List.{take-append-le, length-append}
 use Rattle.ely_row.specs.declared.edit.Edit.{Edit}
 use Rattle.ely_row.specs.declared.mech.Mech.{Mech}
 use Rattle.ely_pipeline.specs.declared.place.Place.{Place}
-use Rattle.ely_row.specs.Edits.{row}
-use Rattle.ely_table.specs.Faults.{texts_of}
-use Rattle.ely_cred.specs.Keys.{ready_of}
+use Rattle.ely_cred.specs.Keys.{Ready, ready_of}
 use Rattle.ely_context.specs.declared.naming.Naming.{Naming}
 use Rattle.ely_context.specs.declared.pin.Pin.{Pin}
 use Rattle.ely_context.specs.declared.stage.Stage.TheVariants.{Fresh, Loading, Named, Checking, Proved, Authorized, Complete, Failed}
 use Rattle.ely_context.specs.Contexts.{ContextStage, ContextLogin}
 use Rattle.ely_domain.specs.declared.prepared.Prepared.{Prepared}
 use Rattle.ely_domain.specs.Contexts.{IsPin, IsKey, HoldsIts, HasHandout, IsSound}
-use Rattle.ely_domain.specs.Identities.{Known, ident, key_at, roles_in, roles, grants}
+use Rattle.ely_domain.specs.Identities.{Known, identity_after, ident, key_at, roles_in, roles, grants}
 use Rattle.ely_perm.specs.Grants.{granted}
-use Rattle.ely_domain.specs.Given.{realms}
 
 -- what is known after one more edit
 abbrev pub more : Known → Edit → Known
@@ -25,9 +23,8 @@ more known e = record { given = known.given; edits = known.edits ++ e ∷ [] }
 -- the identity at a version stays, and so do its key and its roles
 pub ident_stays : (known : Known) (e : Edit) (version : ℕ) (place : Place) → version ≤ length known.edits
     → ident (more known e) version place ≡ ident known version place
-unfolding ident
 ident_stays known e version place past =
-    ap (λ es. row (texts_of (realms known.given)) es place.realm place.name) (take-append-le version known.edits (e ∷ []) past)
+    ap (λ es. identity_after known.given es place.realm place.name) (take-append-le version known.edits (e ∷ []) past)
 
 pub key_stays : (known : Known) (e : Edit) (mech : Mech) (version : ℕ) (place : Place) → version ≤ length known.edits
     → key_at (more known e) mech version place ≡ key_at known mech version place
@@ -54,7 +51,14 @@ pin_stays known e mech p is = record {
   row_is = ident_stays known e p.version p.place is.past ∙ is.row_is;
   serves = is.serves;
   form = is.form;
+  held = held_stays p.held is.held;
+  hit = is.hit;
 }
+  where
+    held_stays : (o : Option Ready) → IfSome o (λ ready. key_at known mech p.version p.place ≡ Some ready)
+        → IfSome o (λ ready. key_at (more known e) mech p.version p.place ≡ Some ready)
+    held_stays None h = tt
+    held_stays (Some ready) h = key_stays known e mech p.version p.place is.past ∙ h
 
 key_holds : (known : Known) (e : Edit) (mech : Mech) (nonce : List ℕ) (p : Pin) (key : Naming) → p.version ≤ length known.edits
     → IsKey known mech nonce p key → IsKey (more known e) mech nonce p key

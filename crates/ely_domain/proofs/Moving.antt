@@ -13,11 +13,15 @@ use Rattle.ely_context.specs.Stages.{state_of}
 use Rattle.ely_domain.specs.declared.event.Event.{Event}
 use Rattle.ely_domain.specs.declared.prepared.Prepared.{Prepared}
 use Rattle.ely_domain.specs.Contexts.{pinned, seen_login, seen_live, IsSound, IsSoundAt, IsReply, Answers, AnswersBy}
+use Rattle.ely_cache.specs.declared.caches.RealmCache.{RealmCache}
+use Rattle.ely_script.specs.declared.word.CacheWord.{CacheWord}
+use Rattle.ely_domain.specs.Caches.{found_in, founds_of}
 use Rattle.ely_domain.specs.Costs.{cost_for, login_cost, RoseBy}
 use Rattle.ely_domain.specs.Identities.{Known}
 use Rattle.ely_domain.specs.Machine.{Answered, answered, answered_for, carried_out}
 use Rattle.ely_digest.specs.Nonces.{Nonces}
 use Rattle.ely_domain.specs.Steps.{Reply, NotDue, Stays, Moves, reply, used_by, carried, is_carried, not_due, not_there}
+use Rattle.ely_domain.proofs.Founds.{found_there}
 use Rattle.ely_domain.proofs.Using.{not_due_uses, gone_uses, stays_uses}
 
 module _ (known : Known) (logins : List (ℕ × ContextLogin)) (nonces : Nonces) (event : Event) (id : ℕ) where
@@ -69,21 +73,21 @@ module _ (known : Known) (logins : List (ℕ × ContextLogin)) (nonces : Nonces)
       by false is = rw (is.0, gone_uses nonces event, ← unchanged old new rising found is.1) refl
 
   -- the same of an answer that may want memory
-  pub found_all : {E : Type 0} (old new : ContextLogin) (result : Result Outcome E) (nonces' : Nonces) → AreRising logins
+  pub found_all : {E : Type 0} (old new : ContextLogin) (result : Result (Outcome × CacheWord) E) (nonces' : Nonces) → AreRising logins
       → login_of logins id ≡ Some old
-      → IfOk result (λ outcome. Answers known nonces event old outcome new)
-      → IfOk result (λ outcome. nonces' ≡ used_by nonces event outcome)
-      → IfOk result (λ outcome. answered known (seen_live logins nonces) event id
-      ≡ record { outcome = outcome; live = seen_live (with_login logins id new) nonces' })
-  found_all old new (Ok outcome) nonces' rising found answers used = found_answered old new outcome nonces' rising found answers used
+      → IfOk result (λ said. Answers known nonces event old said.0 new)
+      → IfOk result (λ said. nonces' ≡ used_by nonces event said.0)
+      → IfOk result (λ said. answered known (seen_live logins nonces) event id
+      ≡ record { outcome = said.0; live = seen_live (with_login logins id new) nonces' })
+  found_all old new (Ok said) nonces' rising found answers used = found_answered old new said.0 nonces' rising found answers used
   found_all old new (Err e) nonces' rising found answers used = answers
 
   -- what it costs
   pub found_cost : (old : ContextLogin) (before after : ℕ) → login_of logins id ≡ Some old
-      → RoseBy before after (cost_for known event (Some (seen_login old)))
-      → RoseBy before after (login_cost known (seen_live logins nonces) event id)
+      → RoseBy before after (cost_for known (found_in old) event (Some (seen_login old)))
+      → RoseBy before after (login_cost known (founds_of logins) (seen_live logins nonces) event id)
   found_cost old before after found rose =
-      rw (login_of-each_login seen_login logins id, found) rose
+      rw (found_there logins id old found, login_of-each_login seen_login logins id, found) rose
 
 -- every login stays sound where one moves
 module _ (known : Known) (logins : List (ℕ × ContextLogin)) (prepared prepared' : List (ℕ × Prepared)) (id : ℕ) (new : ContextLogin)
@@ -115,13 +119,13 @@ closed_stays known logins prepared id sound c login found = by (eqb c id) refl
 
 -- what a refused step leaves is what was there
 pub kept_all : {A E : Type 0} (result : Result A E) (logins : List (ℕ × ContextLogin)) (nonces nonces' : Nonces)
-    (prepared prepared' : List (ℕ × Prepared)) (id : ℕ) (old new : ContextLogin)
+    (prepared prepared' : List (ℕ × Prepared)) (caches caches' : List RealmCache) (id : ℕ) (old new : ContextLogin)
     → AreRising logins → login_of logins id ≡ Some old
-    → OnErr result ((nonces' ≡ nonces) × (new ≡ old) × (prepared' ≡ prepared))
-    → OnErr result ((with_login logins id new ≡ logins) × (nonces' ≡ nonces) × (prepared' ≡ prepared))
-kept_all (Ok x) logins nonces nonces' prepared prepared' id old new rising found same = same
-kept_all (Err e) logins nonces nonces' prepared prepared' id old new rising found same =
-    (ap (with_login logins id) same.1 ∙ with_login-same logins id old rising found, same.0, same.2)
+    → OnErr result ((nonces' ≡ nonces) × (new ≡ old) × (prepared' ≡ prepared) × (caches' ≡ caches))
+    → OnErr result ((with_login logins id new ≡ logins) × (nonces' ≡ nonces) × (prepared' ≡ prepared) × (caches' ≡ caches))
+kept_all (Ok x) logins nonces nonces' prepared prepared' caches caches' id old new rising found same = same
+kept_all (Err e) logins nonces nonces' prepared prepared' caches caches' id old new rising found same =
+    (ap (with_login logins id) same.1 ∙ with_login-same logins id old rising found, same.0, same.2, same.3)
 
 -- no logins are sound
 pub nothing_sound : (known : Known) (logins : List (ℕ × ContextLogin)) (prepared : List (ℕ × Prepared)) → logins ≡ [] → IsSound known logins prepared

@@ -27,7 +27,7 @@ use Rattle.ely_domain.specs.declared.event.Event.TheVariants as events
 use Rattle.ely_domain.specs.Events.{login_id, is_id, is_on}
 use Rattle.ely_domain.specs.Given.{Given, realms}
 use Rattle.ely_domain.specs.Histories.{IsRun, machine_after, accepted_word, words_on, since_open}
-use Rattle.ely_domain.specs.Identities.{Known, grants, to_log_in}
+use Rattle.ely_domain.specs.Identities.{Known, to_log_in}
 use Rattle.ely_domain.specs.Lines.{Taken}
 use Rattle.ely_domain.specs.Logins.{Pinned, KnownStage, KnownLogin, Live}
 use Rattle.ely_domain.specs.Machine.{Machine, Answered, known, answered, answered_for, carried_out, change, opening_fault, opened_or, opened_login, closed, first_machine, step, alg_of, is_used, challenge}

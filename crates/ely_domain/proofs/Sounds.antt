@@ -1,6 +1,7 @@
 -- A login stays sound as it moves.
 use Rattle.std.proofs.Common.{◌≡◌, ℕ, Bool, true, false, cond, List, length, Option, Some, None, Ok, Err, inl, inr, refl, sym, ap, subst, ◌∙◌, arith}
 use Rattle.std.proofs.lemmas.Option.{same_Some}
+use Rattle.std.specs.Prelude.{IfSome, is_some}
 use Rattle.std.specs.Option.{option_map}
 use Rattle.ely_row.specs.declared.mech.Mech.{Mech}
 use Rattle.ely_cred.specs.Keys.{Ready, ready_of}
@@ -17,10 +18,19 @@ use Rattle.ely_context.specs.Contexts.{ContextStage, ContextLogin, naming}
 use Rattle.ely_context.specs.ContextTable as table
 use Rattle.ely_context.specs.Stages.{loading_pin, proved_pin, complete_pin, checked_parts, at_stage}
 use Rattle.ely_perm.specs.Grants.{granted}
+use Rattle.ely_cache.specs.declared.caches.RealmCache.{RealmCache}
+use Rattle.ely_job.specs.Dones.{Done}
+use Rattle.ely_script.specs.declared.word.CacheWord.{CacheWord}
+use Rattle.ely_table.specs.Touching.{touched_since}
+use Rattle.ely_domain.specs.declared.event.Event.TheVariants as events
+use Rattle.ely_domain.specs.Caches.{Keeps, found_in, lists_of}
+use Rattle.ely_domain.specs.Keeping.{sought}
+use Rattle.ely_script.specs.declared.word.CacheWord.TheVariants as words
+use Rattle.ely_domain.specs.KeptKeys.{Key, RealmKeys, at_realm, fill_by, has_key, is_hit, list_of, stands_for, used, word_after, word_in}
 use Rattle.ely_domain.specs.declared.naming.Found.{Found}
 use Rattle.ely_domain.specs.declared.prepared.Prepared.{Prepared}
 use Rattle.ely_domain.specs.Contexts.{IsPin, HoldsIts, IsSoundAt, StaysSound, IsReply, Finds, Asks, pinned, prepared_for, seen_login}
-use Rattle.ely_domain.specs.Identities.{Known, key_at, roles, grants}
+use Rattle.ely_domain.specs.Identities.{Known, deps, key_at, roles, grants}
 use Rattle.ely_domain.specs.Steps.{is_evidence_of, announced, name2, check2, authorize, allows, yes_or_no}
 use Rattle.ely_domain.specs.Verdicts.{exchange, server_first, verdict}
 use Rattle.ely_domain.proofs.Keys.{key_of_row, key_mech}
@@ -112,6 +122,29 @@ module _ (known : Known) (serial : ℕ) (mech : Mech) (nonce : List ℕ) where
   named_reply (Authorized q) new p ready text outcome pin holds ready_is text_is told moved = cc
   named_reply (Complete q) new p ready text outcome pin holds ready_is text_is told moved = cc
   named_reply Failed new p ready text outcome pin holds ready_is text_is told moved = cc
+
+  -- and its fill is what the end of a naming means
+  pub named_keeps : (stage : ContextStage) (new : ContextLogin) (p : Pin) (ready : Ready) (text : Option (List ℕ)) (outcome : Outcome)
+      (c n : ℕ) (brought : Option Done) (shown : CacheWord) (caches caches' : List RealmCache)
+      → loading_pin stage ≡ Some p → outcome ≡ announced text → table.after (login stage) (table.name2 (naming ready text)) ≡ Some new
+      → stands_for shown ≡ word_after p.found (touched_since known.edits p.version (deps known p.place))
+      → lists_of caches' ≡ fill_by shown p.place.realm (sought mech (pinned p)) (lists_of caches)
+      → Keeps known (events.Name2 c n brought) outcome shown caches caches' (login stage) new
+  named_keeps (Loading q) new p ready text outcome c n brought shown caches caches' pin told moved word lists =
+      let same : q ≡ p = same_Some _ _ pin in
+      let accepted : is_accepted outcome ≡ true = ap is_accepted told ∙ announced_accepted text in
+      rw accepted (rw (← same) at word, rw (← same) at lists, ap found_in (sym (same_Some _ _ moved)))
+    where
+      announced_accepted : (t : Option (List ℕ)) → is_accepted (announced t) ≡ true
+      announced_accepted None = refl
+      announced_accepted (Some t) = refl
+  named_keeps Fresh new p ready text outcome c n brought shown caches caches' pin told moved word lists = cc
+  named_keeps (Named q key) new p ready text outcome c n brought shown caches caches' pin told moved word lists = cc
+  named_keeps (Checking q key evidence) new p ready text outcome c n brought shown caches caches' pin told moved word lists = cc
+  named_keeps (Proved q) new p ready text outcome c n brought shown caches caches' pin told moved word lists = cc
+  named_keeps (Authorized q) new p ready text outcome c n brought shown caches caches' pin told moved word lists = cc
+  named_keeps (Complete q) new p ready text outcome c n brought shown caches caches' pin told moved word lists = cc
+  named_keeps Failed new p ready text outcome c n brought shown caches caches' pin told moved word lists = cc
 
   -- a check's verdict leaves the pin
   pub checked_sound : (stage : ContextStage) (new : ContextLogin) (proved : Bool)
@@ -265,11 +298,36 @@ module _ (known : Known) (serial : ℕ) (mech : Mech) (nonce : List ℕ) where
       (λ refused. cc)
 
   -- what is pinned of a fresh login is of its time
-  pub pinned_sound : (new : ContextLogin) (claim : Claim) (found : Found) (pin : Pin)
-      → Finds known mech claim (Ok found)
-      → pin ≡ record { version = length known.edits; place = found.place; row = found.row; claim = claim; miss = false }
-      → table.after (login Fresh) (table.name1 pin) ≡ Some new
-      → (prepared : Option Prepared) → IsSoundAt known prepared new
-  pinned_sound new claim found pin finds pin_is moved prepared =
-      subst (IsSoundAt known prepared) (same_Some _ _ moved)
-      (rw pin_is (record { past = omega arith; row_is = finds.1; serves = finds.2; form = finds.3 }, tt))
+  module _ (stage : ContextStage) (new : ContextLogin) (claim : Claim) (found : Found) (word : CacheWord) (held : Option Ready)
+      (fresh : stage ≡ Fresh) (finds : Finds known mech claim (Ok found)) where
+    abbrev pub its_pin : Pin
+    its_pin = record { version = length known.edits; place = found.place; row = found.row; claim = claim; found = word; held = held }
+
+    pub pinned_sound : IfSome held (λ ready. key_at known mech (length known.edits) found.place ≡ Some ready) → is_some held ≡ is_hit word
+        → table.after (login stage) (table.name1 its_pin) ≡ Some new → StaysSound known (login stage) new
+    pinned_sound current hit =
+        at_stage_known (λ s. table.after (login s) (table.name1 its_pin) ≡ Some new → StaysSound known (login s) new) stage Fresh fresh
+        (λ moved prepared was. subst (IsSoundAt known prepared) (same_Some _ _ moved)
+        (record { past = omega arith; row_is = finds.1; serves = finds.2; form = finds.3; held = current; hit = hit }, tt))
+
+    -- and its word and the use of a key are what the beginning of a naming means
+    pub pinned_keeps : (c : ℕ) (caches caches' : List RealmCache)
+        → word ≡ word_in (list_of (lists_of caches) found.place.realm) (record { name = found.place.name; mech = mech })
+        → lists_of caches' ≡ at_realm found.place.realm (λ limit. used (record { name = found.place.name; mech = mech })) (lists_of caches)
+        → table.after (login stage) (table.name1 its_pin) ≡ Some new
+        → Keeps known (events.Name1 c claim) (outcomes.Pinned (length known.edits)) word caches caches' (login stage) new
+    pinned_keeps c caches caches' word_is lists =
+        at_stage_known (λ s. table.after (login s) (table.name1 its_pin) ≡ Some new
+        → Keeps known (events.Name1 c claim) (outcomes.Pinned (length known.edits)) word caches caches' (login s) new) stage Fresh fresh
+        (λ moved. rw finds.0 (stands (list_of (lists_of caches) found.place.realm) (record { name = found.place.name; mech = mech }) word_is, lists, ap found_in (sym (same_Some _ _ moved))))
+      where
+        stands : (l : Option RealmKeys) (key : Key) → word ≡ word_in l key → stands_for word ≡ word_in l key
+        stands l key is = ap stands_for is ∙ by l
+          where
+            by_test : (b : Bool) → stands_for (cond b words.Hit words.Miss) ≡ cond b words.Hit words.Miss
+            by_test true = refl
+            by_test false = refl
+
+            by : (o : Option RealmKeys) → stands_for (word_in o key) ≡ word_in o key
+            by None = refl
+            by (Some its) = by_test (has_key key its.keys)

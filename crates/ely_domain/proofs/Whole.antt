@@ -14,7 +14,8 @@ use Rattle.ely_script.specs.Outcomes.{is_accepted}
 use Rattle.ely_domain.specs.declared.event.Event.{Event}
 use Rattle.ely_domain.specs.Given.{Given}
 use Rattle.ely_domain.specs.Histories.{machine_after}
-use Rattle.ely_domain.specs.Keeping.{Kept, word_due, stands_for, kept_after, first_kept}
+use Rattle.ely_domain.specs.Keeping.{Kept, word_due, kept_after, first_kept}
+use Rattle.ely_domain.specs.KeptKeys.{stands_for}
 use Rattle.ely_domain.specs.Legal.{Cursor, Point, first_point, own_lines, IsNext, cursor_after, point_after, IsLegalFrom, AreOver, IsWhole}
 use Rattle.ely_domain.specs.Lines.{Taken, Ran, taken, after_first, carried_after, run_parts, ran, AreShown, kept_past}
 use Rattle.ely_domain.specs.Machine.{Machine, Stepped, first_machine, step}

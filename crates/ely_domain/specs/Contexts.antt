@@ -1,5 +1,5 @@
 -- What the kept contexts stand for, and what they keep.
-use Rattle.std.specs.Prelude.{ℕ, ◌≡◌, ◌≤◌, ◌⊎◌, Bool, true, false, List, length, Option, Some, None, IsSome, Result, Ok, Err}
+use Rattle.std.specs.Prelude.{ℕ, ◌≡◌, ◌≤◌, ◌⊎◌, Bool, true, false, List, length, Option, Some, None, IsSome, IfSome, is_some, Result, Ok, Err}
 use Rattle.ely_row.specs.declared.mech.Mech.{Mech}
 use Rattle.ely_cred.specs.Keys.{chosen}
 use Rattle.ely_config.specs.Configs.{Config}
@@ -19,6 +19,7 @@ use Rattle.ely_domain.specs.declared.naming.Found.{Found}
 use Rattle.ely_domain.specs.declared.prepared.Prepared.{Prepared}
 use Rattle.ely_domain.specs.Given.{realms}
 use Rattle.ely_domain.specs.Identities.{Known, ident, key_at, roles, grants, to_log_in}
+use Rattle.ely_domain.specs.KeptKeys.{is_hit}
 use Rattle.ely_domain.specs.Logins.{Pinned, KnownLogin, Live}
 use Rattle.ely_domain.specs.declared.event.Event.{Event}
 use Rattle.ely_domain.specs.Verdicts.{exchange, server_first}
@@ -48,12 +49,15 @@ AreOf config tables = tables.realms ≡ realms (read_of config tables).given
 abbrev pub prepared_for : Known → Pinned → Prepared
 prepared_for known pin = record { version = pin.version; place = pin.place; roles = roles known pin.version pin.place }
 
--- a pin is of a version that was, holds the row of that version, one of whose credentials serves, and is of the mechanism
+-- a pin is of a version that was, holds the row of that version, one of whose credentials serves, and is of the mechanism; it
+-- holds the key of that row exactly where that was found
 pub record IsPin (known : Known) (mech : Mech) (p : Pin) : Type 0 where
   pub past : p.version ≤ length known.edits
   pub row_is : ident known p.version p.place ≡ Some p.row
   pub serves : IsSome (chosen mech p.row)
   pub form : is_claim_of mech p.claim ≡ true
+  pub held : IfSome p.held (λ ready. key_at known mech p.version p.place ≡ Some ready)
+  pub hit : is_some p.held ≡ is_hit p.found
 
 -- a key is that of what was pinned, with the server's first message for it
 pub record IsKey (known : Known) (mech : Mech) (nonce : List ℕ) (p : Pin) (key : Naming) : Type 0 where

@@ -6,12 +6,15 @@ use Rattle.ely_cred.specs.Keys.{Ready, ready_cost}
 use Rattle.ely_cred.specs.Guesses.{guess_cost}
 use Rattle.ely_script.specs.declared.claim.Evidence.{Evidence}
 use Rattle.ely_script.specs.declared.claim.Evidence.TheVariants as evidences
+use Rattle.ely_script.specs.declared.word.CacheWord.{CacheWord}
 use Rattle.ely_context.specs.declared.stage.Stage.TheVariants.{Loading, Checking}
 use Rattle.ely_context.specs.Logins.{login_of}
 use Rattle.ely_domain.specs.declared.event.Event.{Event}
 use Rattle.ely_domain.specs.declared.event.Event.TheVariants as events
 use Rattle.ely_domain.specs.Given.{Given}
 use Rattle.ely_domain.specs.Identities.{Known, ident, key_at}
+use Rattle.ely_domain.specs.KeptKeys.{is_hit}
+use Rattle.ely_domain.specs.Keeping.{Kept, Founds, found_at, kept_after}
 use Rattle.ely_domain.specs.Logins.{KnownStage, KnownLogin, Live}
 use Rattle.ely_domain.specs.Lines.{Taken}
 use Rattle.ely_domain.specs.Machine.{Machine, known, step}
@@ -29,10 +32,12 @@ proof_cost (Some key) (evidences.Plain password) = guess_cost key.cred
 proof_cost (Some key) (evidences.Scram last) = 2
 proof_cost (Some key) (evidences.Digest reply method target) = 0
 
--- what the second half of a naming takes at a stage: the derivation of the pinned version's key
-abbrev pub naming_cost : Known → KnownLogin → KnownStage → ℕ
-naming_cost known login (Loading pin) = row_cost known login.mech (ident known pin.version pin.place)
-naming_cost known login stage = 0
+-- what the second half of a naming takes at a stage: nothing where the first found the key, and else the derivation of the
+-- pinned version's key
+abbrev pub naming_cost : Known → CacheWord → KnownLogin → KnownStage → ℕ
+naming_cost known found login (Loading pin) =
+    if is_hit found then 0 else row_cost known login.mech (ident known pin.version pin.place)
+naming_cost known found login stage = 0
 
 -- what the second half of a check takes at a stage: the trial of what was shown
 abbrev pub check_cost : Known → KnownLogin → KnownStage → ℕ
@@ -40,31 +45,33 @@ check_cost known login (Checking pin key evidence) =
     proof_cost (key_at known login.mech pin.version pin.place) evidence
 check_cost known login stage = 0
 
--- what a step of a login takes that is there and has the serial
-abbrev pub reply_cost : Known → KnownLogin → Event → ℕ
-reply_cost known login (events.Name2 c serial brought) = naming_cost known login login.stage
-reply_cost known login (events.Check2 c serial brought) = check_cost known login login.stage
-reply_cost known login _ = 0
+-- what a step of a login takes that is there and has the serial, where its naming found this
+abbrev pub reply_cost : Known → CacheWord → KnownLogin → Event → ℕ
+reply_cost known found login (events.Name2 c serial brought) = naming_cost known found login login.stage
+reply_cost known found login (events.Check2 c serial brought) = check_cost known login login.stage
+reply_cost known found login _ = 0
 
 -- the same where this is found under its id; a step of another login is gone, and takes nothing
-abbrev pub cost_for : Known → Event → Option KnownLogin → ℕ
-cost_for known event None = 0
-cost_for known event (Some login) = if is_carried (carried event) login.serial then reply_cost known login event else 0
+abbrev pub cost_for : Known → CacheWord → Event → Option KnownLogin → ℕ
+cost_for known found event None = 0
+cost_for known found event (Some login) = if is_carried (carried event) login.serial then reply_cost known found login event else 0
 
 -- what a step on the login with this id takes
-abbrev pub login_cost : Known → Live → Event → ℕ → ℕ
-login_cost known live event c = cost_for known event (login_of live.logins c)
+abbrev pub login_cost : Known → Founds → Live → Event → ℕ → ℕ
+login_cost known founds live event c = cost_for known (found_at founds c) event (login_of live.logins c)
 
 -- what a step of the machine takes: none takes any but the second half of a naming or of a check
-unfoldable pub step_cost : Given → Machine → Event → ℕ
-step_cost given m (events.Name2 c serial brought) = login_cost (known given m) m.live (events.Name2 c serial brought) c
-step_cost given m (events.Check2 c serial brought) = login_cost (known given m) m.live (events.Check2 c serial brought) c
-step_cost given m _ = 0
+unfoldable pub step_cost : Given → Machine → Kept → Event → ℕ
+step_cost given m kept (events.Name2 c serial brought) = login_cost (known given m) kept.founds m.live (events.Name2 c serial brought) c
+step_cost given m kept (events.Check2 c serial brought) = login_cost (known given m) kept.founds m.live (events.Check2 c serial brought) c
+step_cost given m kept _ = 0
 
--- what all steps of a history take, from a machine on
-abbrev pub cost_from : Given → Machine → List Taken → ℕ
-cost_from given m [] = 0
-cost_from given m (t ∷ ts) = step_cost given m t.event + cost_from given (step given m t.event).1 ts
+-- what all steps of a history take, behind which these words were shown, from a machine on
+abbrev pub cost_from : Given → Machine → Kept → List Taken → List CacheWord → ℕ
+cost_from given m kept (t ∷ ts) (shown ∷ words) =
+    step_cost given m kept t.event
+    + cost_from given (step given m t.event).1 (kept_after given m kept t.event t.outcome shown) ts words
+cost_from given m kept _ _ = 0
 
 -- a counter rose by this much at most, and never fell
 abbrev pub RoseBy : ℕ → ℕ → ℕ → Type 0

@@ -29,3 +29,9 @@ IsLoginStep (events.Change edit) = ⊥
 IsLoginStep (events.Begin c mech brought) = ⊥
 IsLoginStep (events.Close c) = ⊥
 IsLoginStep _ = Unit {0}
+
+-- a step of a login that was opened, and that is no naming
+abbrev pub IsQuietStep : Event → Type 0
+IsQuietStep (events.Name1 c claim) = ⊥
+IsQuietStep (events.Name2 c serial brought) = ⊥
+IsQuietStep event = IsLoginStep event

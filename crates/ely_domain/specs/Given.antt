@@ -27,6 +27,8 @@ pub record Given : Type 0 where
 abbrev pub class_by : List ℕ → RealmKind → RealmClass
 class_by digest_realm kinds.Modifiable = classes.Modifiable
 class_by digest_realm (kinds.Properties plain users groups) = classes.Properties plain digest_realm
+class_by digest_realm (kinds.Aggregate authentication authorization) = classes.Composite
+class_by digest_realm (kinds.Caching of limit) = classes.Composite
 
 -- these realms with their classes
 abbrev pub classed : List ℕ → List RealmConfig → List (List ℕ × RealmClass)
@@ -38,8 +40,8 @@ realms given = classed given.config.digest_realm given.config.realms
 
 -- the edit that fills a realm of this name and kind with the identities of its texts, where it has texts
 abbrev pub loading : List ℕ → RealmKind → Option Edit
-loading name kinds.Modifiable = None
 loading name (kinds.Properties plain users groups) = Some (Reload name users groups)
+loading name _ = None
 
 -- the same of these realms, in order
 unfoldable pub loadings : List RealmConfig → List Edit

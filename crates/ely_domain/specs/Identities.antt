@@ -12,17 +12,29 @@ use Rattle.ely_roles.specs.declared.mapper.RoleMapper.{RoleMapper}
 use Rattle.ely_roles.specs.RolesOf.{roles_of}
 use Rattle.ely_perm.specs.Grants.{granted}
 use Rattle.ely_config.specs.declared.realm.RealmConfig.{RealmConfig}
-use Rattle.ely_config.specs.Configs.{Config, realm_named}
+use Rattle.ely_aggregate.specs.Plans.{identity_of}
+use Rattle.ely_config.specs.Configs.{Config}
+use Rattle.ely_config.specs.Realms.{realm_named}
 use Rattle.ely_domain.specs.Given.{Given, realms}
+use Rattle.ely_domain.specs.Plans.{plan_of, deps_in}
 
 -- what a step may read: what the domain was made with, and the accepted edits
 pub record Known : Type 0 where
   pub given : Given
   pub edits : List Edit
 
+-- the identity of a name in a realm, as these edits made it: by the realm's plan, of the rows of its places
+unfoldable pub identity_after : Given → List Edit → List ℕ → List ℕ → Option Row
+identity_after given edits r name =
+    option_and_then (λ plan. identity_of (row (texts_of (realms given)) edits) plan name) (plan_of given.config.realms r)
+
 -- the identity of a place, as the edits up to that version made it
-unfoldable pub ident : Known → ℕ → Place → Option Row
-ident known version place = row (texts_of (realms known.given)) (take version known.edits) place.realm place.name
+abbrev pub ident : Known → ℕ → Place → Option Row
+ident known version place = identity_after known.given (take version known.edits) place.realm place.name
+
+-- the places whose rows that identity is made of
+abbrev pub deps : Known → Place → List (List ℕ × List ℕ)
+deps known place = deps_in known.given.config.realms place.realm place.name
 
 -- the key that this identity has for a mechanism
 unfoldable pub key_at : Known → Mech → ℕ → Place → Option Ready

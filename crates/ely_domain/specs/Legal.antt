@@ -3,7 +3,8 @@ use Rattle.std.specs.Prelude.{ℕ, ◌≡◌, ◌+◌, ◌-◌, ◌≤◌, ◌==
 use Rattle.ely_script.specs.Lines.{ScriptLine}
 use Rattle.ely_script.specs.Outcomes.{is_accepted}
 use Rattle.ely_domain.specs.Given.{Given}
-use Rattle.ely_domain.specs.Keeping.{Kept, first_kept, word_due, stands_for, kept_after}
+use Rattle.ely_domain.specs.Keeping.{Kept, first_kept, word_due, kept_after}
+use Rattle.ely_domain.specs.KeptKeys.{stands_for}
 use Rattle.ely_domain.specs.Lines.{Taken, carried_after}
 use Rattle.ely_domain.specs.Machine.{Machine, first_machine, step}
 use Rattle.ely_domain.specs.Parts.{Part, actor_of, parts_of, event_of}

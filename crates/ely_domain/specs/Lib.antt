@@ -1,4 +1,6 @@
 pub mod Given
+pub mod Plans
+pub mod Planning
 pub mod Identities
 pub mod Logins
 pub mod Verdicts
@@ -6,6 +8,7 @@ pub mod Steps
 pub mod Machine
 pub mod Jobs
 pub mod Handing
+pub mod KeptKeys
 pub mod Keeping
 pub mod Events
 pub mod Parts
@@ -19,3 +22,4 @@ pub mod Legal
 pub mod Headline
 pub mod Domains
 pub mod Contexts
+pub mod Caches

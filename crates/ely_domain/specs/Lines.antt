@@ -12,7 +12,8 @@ use Rattle.ely_domain.specs.declared.event.Event.{Event}
 use Rattle.ely_domain.specs.declared.event.Event.TheVariants as events
 use Rattle.ely_domain.specs.Events.{word_of}
 use Rattle.ely_domain.specs.Given.{Given}
-use Rattle.ely_domain.specs.Keeping.{Kept, word_due, stands_for, kept_after}
+use Rattle.ely_domain.specs.Keeping.{Kept, word_due, kept_after}
+use Rattle.ely_domain.specs.KeptKeys.{stands_for}
 use Rattle.ely_domain.specs.Logins.{Live}
 use Rattle.ely_domain.specs.Machine.{Machine, Stepped, step}
 use Rattle.ely_domain.specs.Parts.{Part, parts_of, event_of}

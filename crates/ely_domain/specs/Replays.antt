@@ -42,6 +42,10 @@ steps_of h = map (λ m. m.taken) h
 abbrev pub steps_told : List Told → List Taken
 steps_told h = map (λ told. told.made.taken) h
 
+-- the words that were shown behind them
+abbrev pub words_told : List Told → List CacheWord
+words_told h = map (λ told. told.shown) h
+
 -- the entry that is printed of a step
 abbrev pub entry_of : Told → Entry
 entry_of told = entry_at told.made.actor told.made.line told.made.taken told.shown

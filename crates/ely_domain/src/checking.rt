@@ -1,6 +1,7 @@
 //! Checking a login in two steps: what it shows, and whether that proves its key.
 
 ghost use Rattle.std.specs.Prelude.{◌≡◌, ℕ, true, Option, Some, None, Err, IsSome, IsTrue, IfSome};
+ghost use Rattle.ely_domain.specs.Caches.{found_in};
 ghost use Rattle.ely_domain.specs.Contexts.{HoldsIts, IsReply, StaysSound, read_of, seen_login};
 ghost use Rattle.ely_domain.specs.Costs.{RoseBy, proof_cost, check_cost};
 ghost use Rattle.ely_domain.specs.Identities.{Known};
@@ -65,7 +66,7 @@ fn use_nonce(nonces: &mut NonceTable, evidence: &Evidence) -> Option<Outcome>
 }
 
 /// The state that a refusal tells beside what it hands back.
-fn told_state<E: Drop>(refusal: (StateWord, E)) -> StateWord
+pub(crate) fn told_state<E: Drop>(refusal: (StateWord, E)) -> StateWord
     ensures { result ≡ refusal.0 }
 {
     let (state, _) = refusal;
@@ -293,7 +294,7 @@ pub(crate) fn check2<L: Ledger>(
     ensures cost { RoseBy steps.old steps.new
         (check_cost (read_of config.now tables.now) (seen_login context.old)
         (seen_login context.old).stage) }
-    ensures brought { IsBrought done (job_at (read_of config.now tables.now)
+    ensures brought { IsBrought done (job_at (read_of config.now tables.now) (found_in context.old)
         (seen_login context.old) (seen_login context.old).stage) → steps.new ≡ steps.old }
 {
     let Some((pin, naming, evidence)) = context.checking() else {

@@ -1,27 +1,32 @@
 //! The domain: one step of it is one step of the machine that it stands for.
 
-ghost use Rattle.std.specs.Prelude.{◌≡◌, ◌<◌, ◌≤◌, ◌^◌, ◌-◌, IfOk, OnErr, IsOk, None, length};
-ghost use Rattle.ely_context.specs.Logins.{state_at};
+ghost use Rattle.std.specs.Prelude.{◌≡◌, ℕ, ◌<◌, ◌≤◌, ◌^◌, ◌-◌, IfOk, List, OnErr, Option, IsOk, None, Some, length, map, slice_get};
+ghost use Rattle.ely_context.specs.Logins.{state_at, with_login, without_login};
 ghost use Rattle.ely_domain.specs.Contexts.{IsSound, read_of, seen_live};
 ghost use Rattle.ely_domain.specs.Costs.{RoseBy, login_cost, step_cost};
 ghost use Rattle.ely_domain.specs.Domains.{IsLoginStep, TakesNoMemory, first_seen};
-ghost use Rattle.ely_domain.specs.Given.{Given, loadings, realms};
+ghost use Rattle.ely_domain.specs.Given.{loadings, realms};
 ghost use Rattle.ely_domain.specs.Jobs.{Brings, BringsResult, job_of, job_behind};
 ghost use Rattle.ely_domain.specs.Handing.{job_ahead};
-ghost use Rattle.ely_domain.specs.Keeping.{Kept, word_due, stands_for, kept_after};
+ghost use Rattle.ely_domain.specs.Keeping.{word_due, word_on, kept_after, kept_on, kept_changed, kept_opened, with_founds};
+ghost use Rattle.ely_domain.specs.KeptKeys.{stands_for};
+ghost use Rattle.ely_cache.specs.Caches.{untouched_in};
+ghost use Rattle.ely_row.specs.declared.edit.Edit.{Edit};
 ghost use Rattle.ely_domain.specs.Lines.{carrier, serial_given, serial_at};
 ghost use Rattle.ely_domain.specs.declared.event.Event.{Event};
-ghost use Rattle.ely_domain.specs.Machine.{Machine, change, begin, closed, answered, with_answered, known, step};
+ghost use Rattle.ely_domain.specs.Machine.{change, begin, closed, answered, with_answered, known, step};
 ghost use Rattle.ely_table.specs.Faults.{fault};
 
 use crate::event::{Answer, Event};
 use crate::handouts::Handouts;
 use crate::jobs::{job_ahead, job_of};
-use crate::loading::first_tables;
+use crate::loading::{first_caches, first_tables};
 use crate::login_step::login_step;
 use crate::nonce::nonce_of;
 use crate::opening::{alg_of, challenge, open, opening_fault};
+use crate::planned::Planned;
 use ely_base::{Bytes, CtxId, NoMemory, Refused, Serial, Version};
+use ely_cache::Caches;
 use ely_config::Config;
 use ely_context::Logins;
 use ely_digest::NonceTable;
@@ -40,12 +45,13 @@ pub const JOURNAL_LIMIT: u32 = 131072;
 /// The most nonces of Digest that are known at once; for a further one the oldest is forgotten.
 const NONCES_LIMIT: u32 = 4096;
 
-/// The tables of the realms with their journal, the configuration, the logins that are live, the nonces of Digest that were
-/// issued, and what the authorized logins hand out.
+/// The tables of the realms with their journal, the configuration with the plans of its realms, the caches of those that are
+/// caching, the logins that are live, the nonces of Digest that were issued, and what the authorized logins hand out.
 #[derive(Drop)]
 pub struct Domain {
     tables: Tables,
-    config: Config,
+    planned: Planned,
+    caches: Caches,
     logins: Logins,
     nonces: NonceTable,
     handouts: Handouts,
@@ -59,6 +65,7 @@ impl Model for Domain {
     ghost use Rattle.ely_domain.specs.Domains.{Seen};
     ghost use Rattle.std.specs.Prelude.{◌≡◌};
     ghost use Rattle.ely_domain.specs.Given.{realms};
+    ghost use Rattle.ely_domain.specs.Caches.{AreCurrent, kept_in};
     ghost use Rattle.ely_domain.specs.Contexts.{IsSound, read_of, seen_live};
 
     ghost Value = { Seen };
@@ -66,23 +73,23 @@ impl Model for Domain {
     ghost coded = { Prim.hlevel (codes, rule.the_row.coded, mapper.the_row.coded) };
 
     ghost view = { λ d. record {
-      given = record { config = d.config; limit = d.tables.limit };
+      given = record { config = d.planned; limit = d.tables.limit };
       machine = record { edits = d.tables.journal; live = seen_live d.logins d.nonces; opened = d.opened };
-      kept = tt;
+      kept = kept_in d.caches d.logins;
     } };
 
-    ghost invariant = { λ d. (d.tables.realms ≡ realms (record { config = d.config; limit = d.tables.limit }))
-        × IsSound (read_of d.config d.tables) d.logins d.handouts };
+    ghost invariant = { λ d. (d.tables.realms ≡ realms (record { config = d.planned; limit = d.tables.limit }))
+        × IsSound (read_of d.planned d.tables) d.logins d.handouts
+        × AreCurrent (read_of d.planned d.tables) d.caches };
 }
 
-/// The word behind an outcome, where no realm keeps keys.
-fn word_due(outcome: &Outcome) -> CacheWord
-    ensures { (given : Given) (m : Machine) (kept : Kept) (event : Event)
-        → stands_for result ≡ word_due given m kept event outcome.now }
+/// Drops from the caches what the last edit touches.
+fn drop_last(tables: &Tables, caches: &mut Caches)
+    ensures { (edit : Edit) → slice_get tables.now.journal (length tables.now.journal - 1) ≡ Some edit
+        → caches.new ≡ map (untouched_in edit) caches.old }
 {
-    match outcome {
-        Outcome::Pinned(_) | Outcome::Named | Outcome::Challenge(_) => CacheWord::Dash,
-        _ => CacheWord::None,
+    if let Some(edit) = tables.last() {
+        caches.drop_touched(edit);
     }
 }
 
@@ -96,11 +103,16 @@ impl Domain {
         ensures { IfOk result (λ domain. domain
             ≡ first_seen (record { config = config; limit = journal_limit })) }
     {
+        let planned = Planned::of(alloc, config)?;
+        let tables = first_tables(alloc, planned.config(), journal_limit)?;
+        let caches = first_caches(alloc, planned.config().realms())?;
+        let nonces = NonceTable::new(alloc, NONCES_LIMIT)?;
         Ok(Domain {
-            tables: first_tables(alloc, &config, journal_limit)?,
-            config,
+            tables,
+            planned,
+            caches,
             logins: Logins::new(alloc),
-            nonces: NonceTable::new(alloc, NONCES_LIMIT)?,
+            nonces,
             handouts: Handouts::new(alloc),
             opened: 0,
         })
@@ -124,7 +136,7 @@ impl Domain {
     pub fn config(&self) -> &Config
         ensures { result.now ≡ self.now.given.config }
     {
-        &self.config
+        self.planned.config()
     }
 
     /// The state of the login with this id.
@@ -137,16 +149,20 @@ impl Domain {
         }
     }
 
-    /// Makes an edit, or refuses it.
+    /// Makes an edit, or refuses it. With an edit that is made the caches lose what it touches.
     fn change(&mut self, alloc: Global, edit: Edit) -> Result<Outcome, NoMemory>
         ensures ok { IfOk result (λ outcome. (outcome, self.new.machine)
             ≡ change self.old.machine edit
             (fault (realms self.old.given) self.old.given.limit self.old.machine.edits edit)) }
+        ensures kept { IfOk result (λ outcome. self.new.kept ≡ kept_changed self.old.given self.old.kept edit outcome) }
         ensures given { self.new.given ≡ self.old.given }
         ensures err { OnErr result (self.new ≡ self.old) }
     {
         match self.tables.apply(alloc, edit) {
-            Ok(version) => Ok(Outcome::Changed(version)),
+            Ok(version) => {
+                drop_last(&self.tables, &mut self.caches);
+                Ok(Outcome::Changed(version))
+            }
             Err(Refused::NoMemory) => Err(NoMemory),
             Err(Refused::Fault(fault)) => Ok(Outcome::Refused(fault)),
         }
@@ -163,16 +179,19 @@ impl Domain {
         requires { self.old.machine.opened < 2 ^ 64 - 1 }
         ensures ok { IfOk result (λ outcome. (outcome, self.new.machine)
             ≡ begin self.old.given self.old.machine id mech brought) }
+        ensures kept { IfOk result (λ outcome. self.new.kept
+            ≡ kept_opened self.old.kept (with_login self.old.kept.founds id CacheWord.None) outcome) }
         ensures given { self.new.given ≡ self.old.given }
         ensures err { OnErr result (self.new ≡ self.old) }
     {
         let serial = Serial(self.opened + 1);
-        let nonce = nonce_of(alloc, &self.config, mech, self.opened + 1, brought)?;
+        let config = self.planned.config();
+        let nonce = nonce_of(alloc, config, mech, self.opened + 1, brought)?;
         let alg = alg_of(mech);
         if let Some(fault) = opening_fault(&self.logins, &self.nonces, id, &nonce, alg) {
             return Ok(fault);
         }
-        let challenge = challenge(alloc, &self.config, &nonce, alg)?;
+        let challenge = challenge(alloc, config, &nonce, alg)?;
         let (logins, nonces) = (&mut self.logins, &mut self.nonces);
         open(alloc, logins, nonces, id, serial, mech, nonce)?;
         self.opened += 1;
@@ -184,6 +203,8 @@ impl Domain {
     fn close(&mut self, id: CtxId) -> Outcome
         ensures ok { (result, self.new.machine)
             ≡ with_answered self.old.machine (closed self.old.machine.live id) }
+        ensures kept { self.new.kept
+            ≡ with_founds self.old.kept (without_login self.old.kept.founds id) }
         ensures given { self.new.given ≡ self.old.given }
     {
         let _ = self.handouts.take(id);
@@ -201,23 +222,28 @@ impl Domain {
         id: CtxId,
         event: Event,
         steps: &mut Steps<L>,
-    ) -> Result<Outcome, NoMemory>
+    ) -> Result<(Outcome, CacheWord), NoMemory>
         requires { IsLoginStep event }
-        ensures ok { IfOk result (λ outcome. (outcome, self.new.machine)
+        ensures ok { IfOk result (λ said. (said.0, self.new.machine)
             ≡ with_answered self.old.machine
             (answered (known self.old.given self.old.machine) self.old.machine.live event id)) }
+        ensures word { IfOk result (λ said. stands_for said.1
+            ≡ word_on (known self.old.given self.old.machine) self.old.machine.live self.old.kept id event said.0) }
+        ensures kept { IfOk result (λ said. self.new.kept
+            ≡ kept_on (known self.old.given self.old.machine) self.old.machine.live self.old.kept id event said.0 said.1) }
         ensures given { self.new.given ≡ self.old.given }
         ensures err { OnErr result (self.new ≡ self.old) }
         ensures takes_no_memory { TakesNoMemory event → IsOk result }
         ensures cost { RoseBy steps.old steps.new
-            (login_cost (known self.old.given self.old.machine) self.old.machine.live event id) }
-        ensures brought { Brings (known self.old.given self.old.machine)
+            (login_cost (known self.old.given self.old.machine) self.old.kept.founds self.old.machine.live event id) }
+        ensures brought { Brings (known self.old.given self.old.machine) self.old.kept.founds
             self.old.machine.live id event → steps.new ≡ steps.old }
     {
         login_step(
             alloc,
-            &self.config,
+            &self.planned,
             &self.tables,
+            &mut self.caches,
             &mut self.logins,
             &mut self.nonces,
             &mut self.handouts,
@@ -227,30 +253,40 @@ impl Domain {
         )
     }
 
-    /// What the domain answers.
+    /// What the domain answers, with the word of what is kept.
     #[tactic(auto, unfolding(crate::specs::Machine::step, crate::specs::Costs::step_cost))]
     fn answer<L: Ledger>(
         &mut self,
         alloc: Global,
         event: Event,
         steps: &mut Steps<L>,
-    ) -> Result<Outcome, NoMemory>
+    ) -> Result<(Outcome, CacheWord), NoMemory>
         requires { self.old.machine.opened < 2 ^ 64 - 1 }
-        ensures ok { IfOk result (λ outcome. (outcome, self.new.machine)
+        ensures ok { IfOk result (λ said. (said.0, self.new.machine)
             ≡ step self.old.given self.old.machine event) }
+        ensures word { IfOk result (λ said. stands_for said.1
+            ≡ word_due self.old.given self.old.machine self.old.kept event said.0) }
+        ensures kept { IfOk result (λ said. self.new.kept
+            ≡ kept_after self.old.given self.old.machine self.old.kept event said.0 said.1) }
         ensures given { self.new.given ≡ self.old.given }
         ensures err { OnErr result (self.new ≡ self.old) }
         ensures takes_no_memory { TakesNoMemory event → IsOk result }
         ensures cost { RoseBy steps.old steps.new
-            (step_cost self.old.given self.old.machine event) }
-        ensures brought { BringsResult (known self.old.given self.old.machine)
+            (step_cost self.old.given self.old.machine self.old.kept event) }
+        ensures brought { BringsResult (known self.old.given self.old.machine) self.old.kept.founds
             self.old.machine.live event → steps.new ≡ steps.old }
     {
         match event {
-            Event::Bad { bad } => Ok(Outcome::Bad(bad)),
-            Event::Change { edit } => self.change(alloc, edit),
-            Event::Begin { ctx, mech, nonce } => self.begin(alloc, ctx, mech, nonce),
-            Event::Close { ctx } => Ok(self.close(ctx)),
+            Event::Bad { bad } => Ok((Outcome::Bad(bad), CacheWord::None)),
+            Event::Change { edit } => match self.change(alloc, edit) {
+                Ok(outcome) => Ok((outcome, CacheWord::None)),
+                Err(NoMemory) => Err(NoMemory),
+            },
+            Event::Begin { ctx, mech, nonce } => match self.begin(alloc, ctx, mech, nonce) {
+                Ok(outcome) => Ok((outcome, CacheWord::None)),
+                Err(NoMemory) => Err(NoMemory),
+            },
+            Event::Close { ctx } => Ok((self.close(ctx), CacheWord::None)),
             Event::Name1 { ctx, .. }
             | Event::Name2 { ctx, .. }
             | Event::Check1 { ctx, .. }
@@ -265,9 +301,16 @@ impl Domain {
     /// The job of the login with this id and this serial, where it is loading or checked: what can be done for it elsewhere.
     pub fn job_of(&self, alloc: Global, id: CtxId, serial: Serial) -> Result<Option<Job>, NoMemory>
         ensures { IfOk result (λ job. job
-            ≡ job_of (known self.now.given self.now.machine) self.now.machine.live id serial) }
+            ≡ job_of (known self.now.given self.now.machine) self.now.kept.founds self.now.machine.live id serial) }
     {
-        job_of(alloc, &self.config, &self.tables, &self.logins, id, serial)
+        job_of(
+            alloc,
+            self.planned.config(),
+            &self.tables,
+            &self.logins,
+            id,
+            serial,
+        )
     }
 
     /// The serial of the login with this id.
@@ -293,13 +336,14 @@ impl Domain {
     /// The job that a step will hand out.
     fn job_ahead(&self, alloc: Global, event: &Event) -> Result<Option<Job>, NoMemory>
         ensures job { IfOk result (λ job. job
-            ≡ job_ahead (known self.now.given self.now.machine) self.now.machine.live event.now) }
+            ≡ job_ahead (known self.now.given self.now.machine) self.now.kept.lists self.now.machine.live event.now) }
         ensures takes_no_memory { TakesNoMemory event.now → IsOk result }
     {
         job_ahead(
             alloc,
-            &self.config,
+            &self.planned,
             &self.tables,
+            &self.caches,
             &self.logins,
             &self.nonces,
             event,
@@ -326,13 +370,13 @@ impl Domain {
         ensures serial { IfOk result (λ answer. answer.serial
             ≡ serial_given (carrier event) answer.outcome self.new.machine.live) }
         ensures job { IfOk result (λ answer. answer.job
-            ≡ job_behind self.old.given self.old.machine event) }
+            ≡ job_behind self.old.given self.old.machine self.old.kept event) }
         ensures given { self.new.given ≡ self.old.given }
         ensures err { OnErr result (self.new ≡ self.old) }
         ensures takes_no_memory { TakesNoMemory event → IsOk result }
         ensures cost { RoseBy steps.old steps.new
-            (step_cost self.old.given self.old.machine event) }
-        ensures brought { BringsResult (known self.old.given self.old.machine)
+            (step_cost self.old.given self.old.machine self.old.kept event) }
+        ensures brought { BringsResult (known self.old.given self.old.machine) self.old.kept.founds
             self.old.machine.live event → steps.new ≡ steps.old }
     {
         match self.job_ahead(alloc, &event) {
@@ -371,13 +415,12 @@ impl Domain {
         ensures err { OnErr result (self.new ≡ self.old) }
         ensures takes_no_memory { TakesNoMemory event → IsOk result }
         ensures cost { RoseBy steps.old steps.new
-            (step_cost self.old.given self.old.machine event) }
-        ensures brought { BringsResult (known self.old.given self.old.machine)
+            (step_cost self.old.given self.old.machine self.old.kept event) }
+        ensures brought { BringsResult (known self.old.given self.old.machine) self.old.kept.founds
             self.old.machine.live event → steps.new ≡ steps.old }
     {
         let of_login = event.carrier();
-        let outcome = self.answer(alloc, event, steps)?;
-        let cache = word_due(&outcome);
+        let (outcome, cache) = self.answer(alloc, event, steps)?;
         let serial = self.serial_given(of_login, &outcome);
         Ok(Answer {
             outcome,

@@ -25,7 +25,7 @@ fn roles_in(alloc: Global, config: &Config, realm: &Name, row: &Row) -> Result<R
     ensures { IfOk result (λ found. found ≡ roles_in config.now realm.now (Some row.now)) }
 {
     match config.realm_named(realm) {
-        None => Roles::of(alloc, Vec::new(alloc)),
+        None => Ok(Roles::of(Vec::new(alloc))),
         Some(realm) => roles_of(
             alloc,
             &realm.role_attribute,

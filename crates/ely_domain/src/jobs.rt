@@ -1,11 +1,14 @@
 //! The jobs of logins: what can be done off the domain.
 
-ghost use Rattle.std.specs.Prelude.{◌≡◌, true, is_some, IfOk, IsOk, IsSome, IsTrue};
+ghost use Rattle.std.specs.Prelude.{◌≡◌, true, false, Some, length, option_map, is_some, IfOk, IfSome, IfNone, IsOk, IsSome, IsTrue};
 ghost use Rattle.ely_cred.specs.Keys.{chosen};
+ghost use Rattle.ely_domain.specs.Caches.{AreCurrent, found_in, founds_of, lists_of};
 ghost use Rattle.ely_domain.specs.Contexts.{AreOf, HoldsIts, HoldTheirs, read_of, seen_live, seen_login};
 ghost use Rattle.ely_domain.specs.Domains.{TakesNoMemory};
 ghost use Rattle.ely_digest.specs.Nonces.{Nonces};
 ghost use Rattle.ely_domain.specs.Handing.{name1_job, check1_job, job_by, job_ahead};
+ghost use Rattle.ely_domain.specs.Identities.{Known, key_at};
+ghost use Rattle.ely_domain.specs.KeptKeys.{is_hit, list_of, word_in};
 ghost use Rattle.ely_domain.specs.Jobs.{message_job, check_job, job_at, job_of};
 ghost use Rattle.ely_domain.specs.Steps.{is_evidence_of, shown_refusal};
 ghost use Rattle.ely_domain.specs.Verdicts.{said_by, server_first};
@@ -13,10 +16,13 @@ ghost use Rattle.ely_job.specs.Digests.{is_digest};
 ghost use Rattle.ely_job.specs.Jobs.{is_scram};
 ghost use Rattle.ely_job.specs.declared.job.Work.TheVariants as works;
 
+use crate::caching::look_up;
 use crate::checking::is_evidence_of;
 use crate::event::Event;
-use crate::naming::found_place;
+use crate::naming::{Found, found_place};
+use crate::planned::Planned;
 use ely_base::{Bytes, CtxId, NoMemory, Serial};
+use ely_cache::Caches;
 use ely_config::Config;
 use ely_context::{Context, Logins, Naming, Pin};
 use ely_cred::Ready;
@@ -39,6 +45,19 @@ fn derive_job(alloc: Global, config: &Config, pin: &Pin, mech: Mech) -> Result<J
     let row = pin.row.share()?;
     let params = config.params().copy(alloc)?;
     Ok(Job::derive(place, row, mech, params))
+}
+
+/// The job of a loading login: the key that was found, or else the derivation of what it pinned.
+fn key_job(alloc: Global, config: &Config, pin: &Pin, mech: Mech) -> Result<Job, NoMemory>
+    requires { IsSome (chosen mech pin.now.row) }
+    ensures held { IfSome pin.now.held (λ ready. IfOk result (λ job. job ≡ works.Held ready)) }
+    ensures derived { IfNone pin.now.held (IfOk result (λ job. job
+        ≡ works.Derive pin.now.place pin.now.row mech config.now.params)) }
+{
+    match &pin.held {
+        Some(ready) => Ok(Job::held(ready.copy(alloc)?)),
+        None => derive_job(alloc, config, pin, mech),
+    }
 }
 
 /// The judgement of a password.
@@ -157,10 +176,10 @@ fn job_at(
     requires { HoldsIts (read_of config.now tables.now)
         context.now.mech context.now.nonce context.now.stage }
     ensures { IfOk result (λ job. job ≡ job_at (read_of config.now tables.now)
-        (seen_login context.now) (seen_login context.now).stage) }
+        (found_in context.now) (seen_login context.now) (seen_login context.now).stage) }
 {
     if let Some(pin) = context.loading() {
-        let job = derive_job(alloc, config, pin, context.mech())?;
+        let job = key_job(alloc, config, pin, context.mech())?;
         return Ok(Some(job));
     }
     match context.checking() {
@@ -183,7 +202,7 @@ pub(crate) fn job_of(
 ) -> Result<Option<Job>, NoMemory>
     requires { HoldTheirs (read_of config.now tables.now) logins.now }
     ensures { (nonces : Nonces) → IfOk result (λ job. job
-        ≡ job_of (read_of config.now tables.now) (seen_live logins.now nonces) id serial) }
+        ≡ job_of (read_of config.now tables.now) (founds_of logins.now) (seen_live logins.now nonces) id serial) }
 {
     match logins.find(id) {
         None => Ok(None),
@@ -197,24 +216,51 @@ pub(crate) fn job_of(
     }
 }
 
+/// The job of a login that pins what was found: the key that the caches have, or else its derivation.
+fn found_job(
+    alloc: Global,
+    config: &Config,
+    caches: &Caches,
+    found: Found,
+    mech: Mech,
+) -> Result<Job, NoMemory>
+    requires { IsSome (chosen mech found.row) }
+    ensures hit { is_hit (word_in (list_of (lists_of caches.now) found.place.realm) (record { name = found.place.name; mech = mech })) ≡ true
+        → (known : Known) → AreCurrent known caches.now
+        → IfOk result (λ job. Some job ≡ option_map works.Held (key_at known mech (length known.edits) found.place)) }
+    ensures derived { is_hit (word_in (list_of (lists_of caches.now) found.place.realm) (record { name = found.place.name; mech = mech })) ≡ false
+        → IfOk result (λ job. job ≡ works.Derive found.place found.row mech config.now.params) }
+{
+    let params = config.params().copy(alloc)?;
+    let (_, held) = look_up(alloc, caches, &found.place, mech)?;
+    match held {
+        Some(ready) => Ok(Job::held(ready)),
+        None => Ok(Job::derive(found.place, found.row, mech, params)),
+    }
+}
+
 /// The job of a fresh login behind its naming, if that is accepted.
 fn name1_job(
     alloc: Global,
-    config: &Config,
+    planned: &Planned,
     tables: &Tables,
+    caches: &Caches,
     context: &Context,
     claim: &Claim,
 ) -> Result<Option<Job>, NoMemory>
-    requires { AreOf config.now tables.now }
-    ensures { IfOk result (λ job. job ≡ name1_job (read_of config.now tables.now)
+    requires tables { AreOf planned.now tables.now }
+    requires current { AreCurrent (read_of planned.now tables.now) caches.now }
+    ensures { IfOk result (λ job. job ≡ name1_job (read_of planned.now tables.now) (lists_of caches.now)
         (seen_login context.now) claim.now (seen_login context.now).stage) }
 {
     let StateWord::Fresh = context.state() else {
         return Ok(None);
     };
-    let params = config.params().copy(alloc)?;
-    match found_place(alloc, config, tables, context.mech(), claim)? {
-        Ok(found) => Ok(Some(Job::derive(found.place, found.row, context.mech(), params))),
+    match found_place(alloc, planned, tables, context.mech(), claim)? {
+        Ok(found) => {
+            let job = found_job(alloc, planned.config(), caches, found, context.mech())?;
+            Ok(Some(job))
+        }
         Err(_) => Ok(None),
     }
 }
@@ -259,23 +305,25 @@ fn check1_job(
 /// The job of a login behind a step of it, if that is accepted.
 fn job_by(
     alloc: Global,
-    config: &Config,
+    planned: &Planned,
     tables: &Tables,
+    caches: &Caches,
     nonces: &NonceTable,
     context: &Context,
     event: &Event,
 ) -> Result<Option<Job>, NoMemory>
-    requires tables { AreOf config.now tables.now }
-    requires holds { HoldsIts (read_of config.now tables.now)
+    requires tables { AreOf planned.now tables.now }
+    requires current { AreCurrent (read_of planned.now tables.now) caches.now }
+    requires holds { HoldsIts (read_of planned.now tables.now)
         context.now.mech context.now.nonce context.now.stage }
-    ensures { IfOk result (λ job. job
-        ≡ job_by (read_of config.now tables.now) nonces.now event.now (seen_login context.now)) }
+    ensures { IfOk result (λ job. job ≡ job_by (read_of planned.now tables.now) (lists_of caches.now)
+        nonces.now event.now (seen_login context.now)) }
 {
     match event {
-        Event::Name1 { claim, .. } => name1_job(alloc, config, tables, context, claim),
+        Event::Name1 { claim, .. } => name1_job(alloc, planned, tables, caches, context, claim),
         Event::Check1 { evidence, .. } => {
             if event.is_carried(context.serial()) {
-                check1_job(alloc, config, tables, nonces, context, evidence)
+                check1_job(alloc, planned.config(), tables, nonces, context, evidence)
             } else {
                 Ok(None)
             }
@@ -287,16 +335,18 @@ fn job_by(
 /// The job that a step will hand out.
 pub(crate) fn job_ahead(
     alloc: Global,
-    config: &Config,
+    planned: &Planned,
     tables: &Tables,
+    caches: &Caches,
     logins: &Logins,
     nonces: &NonceTable,
     event: &Event,
 ) -> Result<Option<Job>, NoMemory>
-    requires tables { AreOf config.now tables.now }
-    requires hold { HoldTheirs (read_of config.now tables.now) logins.now }
-    ensures job { IfOk result (λ job. job
-        ≡ job_ahead (read_of config.now tables.now) (seen_live logins.now nonces.now) event.now) }
+    requires tables { AreOf planned.now tables.now }
+    requires current { AreCurrent (read_of planned.now tables.now) caches.now }
+    requires hold { HoldTheirs (read_of planned.now tables.now) logins.now }
+    ensures job { IfOk result (λ job. job ≡ job_ahead (read_of planned.now tables.now)
+        (lists_of caches.now) (seen_live logins.now nonces.now) event.now) }
     ensures takes_no_memory { TakesNoMemory event.now → IsOk result }
 {
     let Some(id) = event.carrier() else {
@@ -304,6 +354,6 @@ pub(crate) fn job_ahead(
     };
     match logins.find(id) {
         None => Ok(None),
-        Some(context) => job_by(alloc, config, tables, nonces, context, event),
+        Some(context) => job_by(alloc, planned, tables, caches, nonces, context, event),
     }
 }

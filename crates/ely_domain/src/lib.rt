@@ -1,8 +1,9 @@
 //! The security domain: a machine over a journal of edits and the logins that are live. Its definitions say what each step
 //! answers, computed anew from the list of edits, which histories of a script are legal, when a login is ready to succeed,
-//! and who gets in. It keeps tables, pinned rows and derived keys beside that, on which no answer depends.
+//! and who gets in. It keeps tables, pinned rows and derived keys beside that, on which no outcome depends.
 #![tactic(auto)]
 
+mod caching;
 mod checking;
 mod domain;
 mod event;
@@ -16,6 +17,7 @@ mod naming;
 mod nonce;
 mod opening;
 mod part;
+mod planned;
 mod prepared;
 
 pub use domain::{Domain, JOURNAL_LIMIT};

@@ -1,10 +1,16 @@
-//! The tables with which a domain begins: its realms, and one reload of each that has texts.
+//! The tables and the caches with which a domain begins: its realms, one reload of each that has texts, and an empty cache for
+//! each that is caching.
 
-ghost use Rattle.std.specs.Prelude.{◌≡◌, ◌≤◌, None, length, IfOk, OnOk};
+ghost use Rattle.std.specs.Prelude.{◌≡◌, ◌≤◌, ◌++◌, None, length, true, [], IfOk, OnOk};
+ghost use Rattle.std.specs.List.{AllByRecursion, cons_option};
+ghost use Rattle.ely_domain.specs.Caches.{AreCurrent, lists_of};
 ghost use Rattle.ely_domain.specs.Given.{class_by, classed, loading, loadings};
+ghost use Rattle.ely_domain.specs.Identities.{Known};
+ghost use Rattle.ely_domain.specs.KeptKeys.{first_list, first_lists, is_cache_sized};
 ghost use Rattle.ely_table.specs.Faults.{fault, recorded};
 
 use ely_base::{Bytes, Name, NoMemory, Refused};
+use ely_cache::Caches;
 use ely_config::{Config, RealmConfig, RealmKind};
 use ely_row::Edit;
 use ely_table::{RealmClass, Tables};
@@ -20,6 +26,8 @@ fn class_by(alloc: Global, digest_realm: &Bytes, kind: &RealmKind) -> Result<Rea
             plain: *plain,
             fallback: digest_realm.copy(alloc)?,
         }),
+        RealmKind::Aggregate { .. } => Ok(RealmClass::Composite),
+        RealmKind::Caching { .. } => Ok(RealmClass::Composite),
     }
 }
 
@@ -44,12 +52,12 @@ fn loading(alloc: Global, realm: &RealmConfig) -> Result<Option<Edit>, NoMemory>
     ensures { IfOk result (λ edit. edit ≡ loading realm.now.name realm.now.kind) }
 {
     match &realm.kind {
-        RealmKind::Modifiable => Ok(None),
         RealmKind::Properties { users, groups, .. } => Ok(Some(Edit::Reload {
             realm: realm.name.copy(alloc)?,
             users: users.copy(alloc)?,
             groups: groups.copy(alloc)?,
         })),
+        RealmKind::Modifiable | RealmKind::Aggregate { .. } | RealmKind::Caching { .. } => Ok(None),
     }
 }
 
@@ -89,4 +97,30 @@ pub(crate) fn first_tables(
         }
     }
     Ok(tables)
+}
+
+/// Adds an empty cache where the realm is caching.
+fn add_cache(alloc: Global, caches: &mut Caches, realm: &RealmConfig) -> Result<(), NoMemory>
+    requires { is_cache_sized realm.now.kind ≡ true }
+    ensures lists { OnOk result (lists_of caches.new
+        ≡ lists_of caches.old ++ cons_option (first_list realm.now.name realm.now.kind) []) }
+    ensures current { (known : Known) → AreCurrent known caches.old → OnOk result (AreCurrent known caches.new) }
+{
+    match &realm.kind {
+        RealmKind::Caching { limit, .. } => caches.add(alloc, realm.name.copy(alloc)?, *limit),
+        _ => Ok(()),
+    }
+}
+
+/// An empty cache for each realm that is caching, in order.
+pub(crate) fn first_caches(alloc: Global, realms: &[RealmConfig]) -> Result<Caches, NoMemory>
+    requires { AllByRecursion (λ realm. is_cache_sized realm.kind ≡ true) realms.now }
+    ensures lists { IfOk result (λ caches. lists_of caches ≡ first_lists realms.now) }
+    ensures current { (known : Known) → IfOk result (λ caches. AreCurrent known caches) }
+{
+    let mut caches = Caches::new(alloc);
+    for realm in realms {
+        add_cache(alloc, &mut caches, realm)?;
+    }
+    Ok(caches)
 }

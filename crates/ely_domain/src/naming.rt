@@ -1,18 +1,27 @@
 //! Naming a login in two steps: who it is, and with which key.
 
-ghost use Rattle.std.specs.Prelude.{◌≡◌, ℕ, IfOk, IfSome, OnErr, Ok, Option, Some, IsSome};
+ghost use Rattle.std.specs.Prelude.{◌≡◌, ℕ, IfOk, IfSome, OnOk, OnErr, Ok, Option, Some, IsSome, length};
 ghost use Rattle.ely_context.specs.declared.stage.Stage.TheVariants as stages;
 ghost use Rattle.ely_cred.specs.Keys.{chosen, ready_of, ready_cost};
-ghost use Rattle.ely_domain.specs.Contexts.{AreOf, Finds, HoldsIts, IsReply, IsSoundAt, StaysSound, read_of, seen_login};
+ghost use Rattle.ely_domain.specs.Caches.{AreCurrent, Keeps, found_in};
+ghost use Rattle.ely_domain.specs.Contexts.{AreOf, Finds, HoldsIts, IsPin, IsReply, IsSoundAt, StaysSound, read_of, seen_login};
 ghost use Rattle.ely_domain.specs.Costs.{RoseBy, naming_cost};
 ghost use Rattle.ely_domain.specs.Given.{Given};
+ghost use Rattle.ely_domain.specs.Identities.{ident};
+ghost use Rattle.ely_domain.specs.KeptKeys.{is_hit};
+ghost use Rattle.ely_domain.specs.declared.event.Event.{Event};
 ghost use Rattle.ely_domain.specs.Jobs.{IsBrought, job_at};
 ghost use Rattle.ely_job.specs.declared.job.Work.TheVariants as works;
 ghost use Rattle.ely_domain.specs.Steps.{claimed_name, differs, is_other, is_alg_of, is_claim_of, serving, announced, name1, name2};
 ghost use Rattle.ely_domain.specs.Verdicts.{exchange, server_first};
 ghost use Rattle.ely_domain.specs.declared.prepared.Prepared.{Prepared};
 
+use crate::caching::{look_up, settle};
+use crate::checking::told_state;
+use crate::planned::Planned;
+use ely_aggregate::assemble;
 use ely_base::{Bytes, Name, NoMemory, Refused};
+use ely_cache::Caches;
 use ely_config::Config;
 use ely_context::{Context, Pin};
 use ely_cred::{Ready, ReadyKey, choose, derive};
@@ -20,9 +29,9 @@ use ely_digest_msg::DigestAlg;
 use ely_hash::Steps;
 use ely_job::{Done, discard};
 use ely_pipeline::{Place, resolve};
-use ely_row::{Mech, RowSource, SharedRow};
+use ely_row::{Mech, SharedRow};
 use ely_scram_msg::write_server_first;
-use ely_script::{Claim, Outcome, StateWord};
+use ely_script::{CacheWord, Claim, Outcome, StateWord};
 use ely_table::Tables;
 use std::alloc::Global;
 use std::sync::ledger::Ledger;
@@ -89,19 +98,38 @@ fn is_claim_of(mech: Mech, claim: &Claim) -> bool
     }
 }
 
-/// The row of a place now, one of whose credentials serves the mechanism; or why there is none.
-#[tactic(auto, unfolding(crate::specs::Steps::serving, crate::specs::Identities::ident))]
+/// The identity of a place now.
+#[tactic(auto, unfolding(crate::specs::Identities::identity_after))]
+fn identity_now(
+    alloc: Global,
+    planned: &Planned,
+    tables: &Tables,
+    place: &Place,
+) -> Result<Option<SharedRow>, NoMemory>
+    requires { AreOf planned.now tables.now }
+    ensures { IfOk result (λ row. row
+        ≡ ident (read_of planned.now tables.now) (length tables.now.journal) place.now) }
+{
+    match planned.plan_of(&place.realm) {
+        None => Ok(None),
+        Some(plan) => assemble::<Tables>(alloc, plan, &place.name, tables),
+    }
+}
+
+/// The identity of a place now, one of whose credentials serves the mechanism; or why there is none.
+#[tactic(auto, unfolding(crate::specs::Steps::serving))]
 fn serving_row(
-    config: &Config,
+    alloc: Global,
+    planned: &Planned,
     tables: &Tables,
     mech: Mech,
     place: &Place,
 ) -> Result<Result<SharedRow, Outcome>, NoMemory>
-    requires { AreOf config.now tables.now }
+    requires { AreOf planned.now tables.now }
     ensures { IfOk result (λ found. found
-        ≡ serving (read_of config.now tables.now) mech place.now) }
+        ≡ serving (read_of planned.now tables.now) mech place.now) }
 {
-    let Some(row) = tables.row_shared(&place.realm, &place.name)? else {
+    let Some(row) = identity_now(alloc, planned, tables, place)? else {
         return Ok(Err(Outcome::Unknown));
     };
     if choose(row.row(), mech).is_none() {
@@ -114,13 +142,13 @@ fn serving_row(
 #[tactic(auto, unfolding(crate::specs::Steps::naming))]
 pub(crate) fn found_place(
     alloc: Global,
-    config: &Config,
+    planned: &Planned,
     tables: &Tables,
     mech: Mech,
     claim: &Claim,
 ) -> Result<Result<Found, Outcome>, NoMemory>
-    requires { AreOf config.now tables.now }
-    ensures { IfOk result (λ found. Finds (read_of config.now tables.now) mech claim.now found) }
+    requires { AreOf planned.now tables.now }
+    ensures { IfOk result (λ found. Finds (read_of planned.now tables.now) mech claim.now found) }
 {
     if !is_claim_of(mech, claim) {
         return Ok(Err(Outcome::Mechanism(mech)));
@@ -128,69 +156,84 @@ pub(crate) fn found_place(
     if is_other(claim) {
         return Ok(Err(Outcome::Authzid));
     }
-    let place = match resolve(alloc, config.pipeline(), claimed_name(claim)) {
+    let place = match resolve(alloc, planned.config().pipeline(), claimed_name(claim)) {
         Ok(place) => place,
         Err(Refused::NoMemory) => return Err(NoMemory),
         Err(Refused::Fault(fault)) => return Ok(Err(Outcome::Pipe(fault))),
     };
-    match serving_row(config, tables, mech, &place)? {
+    match serving_row(alloc, planned, tables, mech, &place)? {
         Ok(row) => Ok(Ok(Found { place, row })),
         Err(refusal) => Ok(Err(refusal)),
     }
 }
 
-/// Pins what was found.
+/// Pins what was found, with what the caches have of its key.
 fn pin_found(
-    config: &Config,
+    alloc: Global,
+    planned: &Planned,
     tables: &Tables,
+    caches: &mut Caches,
     context: &mut Context,
     claim: Claim,
     found: Found,
-) -> Outcome
+) -> Result<(Outcome, CacheWord), NoMemory>
     requires fresh { context.old.stage ≡ stages.Fresh }
-    requires found { Finds (read_of config.now tables.now) context.old.mech claim (Ok found) }
-    ensures reply { IsReply
-        (name1 (read_of config.now tables.now) (seen_login context.old) claim stages.Fresh)
-        Outcome.State context.old result context.new }
-    ensures sound { (prepared : Option Prepared)
-        → IsSoundAt (read_of config.now tables.now) prepared context.new }
+    requires found { Finds (read_of planned.now tables.now) context.old.mech claim (Ok found) }
+    requires current { AreCurrent (read_of planned.now tables.now) caches.old }
+    ensures reply { IfOk result (λ said. IsReply
+        (name1 (read_of planned.now tables.now) (seen_login context.old) claim stages.Fresh)
+        Outcome.State context.old said.0 context.new) }
+    ensures keeps { (c : ℕ) → IfOk result (λ said. Keeps (read_of planned.now tables.now)
+        (Event.Name1 c claim) said.0 said.1 caches.old caches.new context.old context.new) }
+    ensures sound { StaysSound (read_of planned.now tables.now) context.old context.new }
+    ensures current { AreCurrent (read_of planned.now tables.now) caches.new }
+    ensures err { OnErr result ((context.new ≡ context.old) × (caches.new ≡ caches.old)) }
 {
+    let mech = context.mech();
+    let (word, held) = look_up(alloc, caches, &found.place, mech)?;
+    caches.use_key(&found.place.realm, &found.place.name, mech);
     let version = tables.version();
     let pin = Pin {
         version,
         place: found.place,
         row: found.row,
         claim,
-        miss: false,
+        found: word,
+        held,
     };
     match context.name1(pin) {
-        Ok(()) => Outcome::Pinned(version),
-        Err((state, _)) => Outcome::State(state),
+        Ok(()) => Ok((Outcome::Pinned(version), word)),
+        Err(refusal) => Ok((Outcome::State(told_state(refusal)), CacheWord::None)),
     }
 }
 
 /// Names a fresh login, unless something stands against it.
 pub(crate) fn name1(
     alloc: Global,
-    config: &Config,
+    planned: &Planned,
     tables: &Tables,
+    caches: &mut Caches,
     context: &mut Context,
     claim: Claim,
-) -> Result<Outcome, NoMemory>
-    requires { AreOf config.now tables.now }
-    ensures reply { IfOk result (λ outcome. IsReply
-        (name1 (read_of config.now tables.now) (seen_login context.old) claim
+) -> Result<(Outcome, CacheWord), NoMemory>
+    requires tables { AreOf planned.now tables.now }
+    requires current { AreCurrent (read_of planned.now tables.now) caches.old }
+    ensures reply { IfOk result (λ said. IsReply
+        (name1 (read_of planned.now tables.now) (seen_login context.old) claim
         (seen_login context.old).stage)
-        Outcome.State context.old outcome context.new) }
-    ensures sound { StaysSound (read_of config.now tables.now) context.old context.new }
-    ensures err { OnErr result (context.new ≡ context.old) }
+        Outcome.State context.old said.0 context.new) }
+    ensures keeps { (c : ℕ) → IfOk result (λ said. Keeps (read_of planned.now tables.now)
+        (Event.Name1 c claim) said.0 said.1 caches.old caches.new context.old context.new) }
+    ensures sound { StaysSound (read_of planned.now tables.now) context.old context.new }
+    ensures current { AreCurrent (read_of planned.now tables.now) caches.new }
+    ensures err { OnErr result ((context.new ≡ context.old) × (caches.new ≡ caches.old)) }
 {
     let StateWord::Fresh = context.state() else {
-        return Ok(Outcome::State(context.state()));
+        return Ok((Outcome::State(context.state()), CacheWord::None));
     };
-    match found_place(alloc, config, tables, context.mech(), &claim)? {
-        Err(refusal) => Ok(refusal),
-        Ok(found) => Ok(pin_found(config, tables, context, claim, found)),
+    match found_place(alloc, planned, tables, context.mech(), &claim)? {
+        Err(refusal) => Ok((refusal, CacheWord::None)),
+        Ok(found) => pin_found(alloc, planned, tables, caches, context, claim, found),
     }
 }
 
@@ -229,7 +272,7 @@ fn brought_key(config: &Config, pin: &Pin, mech: Mech, done: Option<Done>) -> Op
     done?.into_key(&pin.place, &pin.row, mech, config.params())
 }
 
-/// The key of what was pinned: the one that is brought, or else it is derived here.
+/// The key of what was pinned: the one that was found, or one that is brought, or else it is derived here.
 fn ready_by<L: Ledger>(
     alloc: Global,
     config: &Config,
@@ -238,14 +281,21 @@ fn ready_by<L: Ledger>(
     done: Option<Done>,
     steps: &mut Steps<L>,
 ) -> Result<Ready, NoMemory>
-    requires { IsSome (chosen mech pin.now.row) }
+    requires serves { IsSome (chosen mech pin.now.row) }
+    requires held { IfSome pin.now.held (λ ready. Some ready
+        ≡ ready_of config.now.params pin.now.place.realm pin.now.place.name mech pin.now.row) }
     ensures value { IfOk result (λ ready. Some ready
         ≡ ready_of config.now.params pin.now.place.realm pin.now.place.name mech pin.now.row) }
     ensures cost { RoseBy steps.old steps.new (ready_cost config.now.params mech pin.now.row) }
+    ensures held { IsSome pin.now.held → steps.new ≡ steps.old }
     ensures brought { IsBrought done
         (Some (works.Derive pin.now.place pin.now.row mech config.now.params))
         → steps.new ≡ steps.old }
 {
+    if let Some(ready) = &pin.held {
+        discard(done);
+        return ready.copy(alloc);
+    }
     match brought_key(config, pin, mech, done) {
         Some(ready) => Ok(ready),
         None => ready_for(alloc, config, pin, mech, steps),
@@ -282,39 +332,47 @@ fn announced(alloc: Global, server_first: &Option<Bytes>) -> Result<Outcome, NoM
     }
 }
 
-/// Gives a loading login the key of what it pinned.
+/// Gives a loading login the key of what it pinned, and keeps it in the cache of its realm where the naming missed it, unless
+/// an edit since touched what it rests on.
 pub(crate) fn name2<L: Ledger>(
     alloc: Global,
-    config: &Config,
+    planned: &Planned,
     tables: &Tables,
+    caches: &mut Caches,
     context: &mut Context,
     done: Option<Done>,
     steps: &mut Steps<L>,
-) -> Result<Outcome, NoMemory>
-    requires { HoldsIts (read_of config.now tables.now)
+) -> Result<(Outcome, CacheWord), NoMemory>
+    requires holds { HoldsIts (read_of planned.now tables.now)
         context.old.mech context.old.nonce context.old.stage }
-    ensures reply { IfOk result (λ outcome. IsReply
-        (name2 (read_of config.now tables.now) (seen_login context.old)
+    requires current { AreCurrent (read_of planned.now tables.now) caches.old }
+    ensures reply { IfOk result (λ said. IsReply
+        (name2 (read_of planned.now tables.now) (seen_login context.old)
         (seen_login context.old).stage)
-        (λ state. Outcome.Gone) context.old outcome context.new) }
-    ensures sound { StaysSound (read_of config.now tables.now) context.old context.new }
-    ensures err { OnErr result (context.new ≡ context.old) }
+        (λ state. Outcome.Gone) context.old said.0 context.new) }
+    ensures keeps { (c serial : ℕ) → IfOk result (λ said. Keeps (read_of planned.now tables.now)
+        (Event.Name2 c serial done) said.0 said.1 caches.old caches.new context.old context.new) }
+    ensures sound { StaysSound (read_of planned.now tables.now) context.old context.new }
+    ensures current { AreCurrent (read_of planned.now tables.now) caches.new }
+    ensures err { OnErr result ((context.new ≡ context.old) × (caches.new ≡ caches.old)) }
     ensures cost { RoseBy steps.old steps.new
-        (naming_cost (read_of config.now tables.now) (seen_login context.old)
+        (naming_cost (read_of planned.now tables.now) (found_in context.old) (seen_login context.old)
         (seen_login context.old).stage) }
-    ensures brought { IsBrought done (job_at (read_of config.now tables.now)
-        (seen_login context.old) (seen_login context.old).stage) → steps.new ≡ steps.old }
+    ensures brought { IsBrought done (job_at (read_of planned.now tables.now)
+        (found_in context.old) (seen_login context.old) (seen_login context.old).stage)
+        → steps.new ≡ steps.old }
 {
     let mech = context.mech();
     let Some(pin) = context.loading() else {
         discard(done);
-        return Ok(Outcome::Gone);
+        return Ok((Outcome::Gone, CacheWord::None));
     };
-    let ready = ready_by(alloc, config, pin, mech, done, steps)?;
+    let ready = ready_by(alloc, planned.config(), pin, mech, done, steps)?;
     let server_first = server_first(alloc, context.nonce(), &pin.claim, &ready)?;
     let outcome = announced(alloc, &server_first)?;
+    let word = settle(alloc, planned, tables, caches, pin, mech, &ready)?;
     match context.name2(ready, server_first) {
-        Ok(()) => Ok(outcome),
-        Err(_) => Ok(Outcome::Gone),
+        Ok(()) => Ok((outcome, word)),
+        Err(_) => Ok((Outcome::Gone, CacheWord::None)),
     }
 }

@@ -16,7 +16,7 @@ use Rattle.ely_domain.specs.Keeping.{Kept, first_kept, kept_after}
 use Rattle.ely_domain.specs.Lines.{Taken, ran, entry_at, entries_at, AreShown}
 use Rattle.ely_domain.specs.Machine.{Machine, first_machine, step}
 use Rattle.ely_domain.specs.Parts.{actor_of, parts_of}
-use Rattle.ely_domain.specs.Replays.{Told, told_by, entry_of, own_count, steps_told, kept_told}
+use Rattle.ely_domain.specs.Replays.{Told, told_by, entry_of, own_count, steps_told, words_told, kept_told}
 use Rattle.ely_domain.proofs.Opened.{four_parts}
 use Rattle.ely_domain.proofs.Whole.{count_push}
 use Rattle.ely_domain.proofs.Extends.{told_next, machine_next, cost_next, kept_next, history_next}
@@ -42,7 +42,8 @@ text_of-append h made =
     ∙ ap (λ n. text_of h ++ text_from n (map entry_of made)) number)
 
 -- what a history costs
-pub cost_is : (given : Given) (h : List Told) → cost_of given h ≡ cost_from given (first_machine given) (steps_told h)
+pub cost_is : (given : Given) (h : List Told)
+    → cost_of given h ≡ cost_from given (first_machine given) (first_kept given) (steps_told h) (words_told h)
 unfolding cost_of
 cost_is given h = refl
 
@@ -76,14 +77,13 @@ few_opened given m m' line is =
 
 -- A line was run on the domain of a replay, its steps were printed, and it was counted.
 pub record IsAnswered (old new : Replay) (line : ScriptLine) (n : ℕ) (entries : List Entry) (said : List ℕ) (before now : ℕ) : Type 0 where
-  pub makes : Makes old.domain new.domain (actor_of line) (ran old.domain.given old.domain.machine line) [] entries
+  pub makes : Makes old.domain new.domain (actor_of line) (ran old.domain.given old.domain.machine line) [] entries before now
   pub given_is : new.domain.given ≡ old.domain.given
   pub line_is : n ≡ count_of old (actor_of line) + 1
   pub here : get nat_cmp new.counts (actor_of line) ≡ Some n
   pub others : (a : ℕ) → (a ≡ actor_of line → ⊥) → get nat_cmp new.counts a ≡ get nat_cmp old.counts a
   pub number_is : new.number ≡ old.number + length entries
   pub said_is : said ≡ text_from old.number (map (numbered n) entries)
-  pub paid : RoseBy before now (cost_from old.domain.given old.domain.machine (ran old.domain.given old.domain.machine line).0)
 
 module _ (old new : Replay) (line : ScriptLine) (n : ℕ) (entries : List Entry) (said : List ℕ) (before now : ℕ) (answered : IsAnswered old new line n entries said before now) (given : Given) (lines : List ScriptLine) (h : List Told) (after : IsAfter given old lines h) where
   abbrev stood : Machine
@@ -164,7 +164,8 @@ module _ (old new : Replay) (line : ScriptLine) (n : ℕ) (entries : List Entry)
 
   paid_here : now + cost_of given h ≤ before + cost_of given (h ++ next)
   paid_here =
-      let paid : RoseBy before now (cost_from given stood (ran given stood line).0) = rw (after.given_is, after.machine_is) at answered.paid in
+      let paid : RoseBy before now (cost_from given stood keeping (ran given stood line).0 words) =
+      rw (after.given_is, after.machine_is, after.kept_is) at answered.makes.paid in
       omega (arith, paid.1, cost_is given h, cost_is given (h ++ next), cost_next given lines h line words are_here)
 
   pub line_answered : (out out' : List ℕ) → out' ≡ out ++ said → Answers given new lines h (line ∷ []) out out' before now

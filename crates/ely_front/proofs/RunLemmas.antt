@@ -8,6 +8,7 @@ use Rattle.ely_domain.specs.declared.event.Event.{Event}
 use Rattle.ely_domain.specs.Costs.{RoseBy, step_cost, cost_from}
 use Rattle.ely_domain.specs.Domains.{Seen}
 use Rattle.ely_domain.specs.Given.{Given}
+use Rattle.ely_domain.specs.Keeping.{kept_after}
 use Rattle.ely_domain.specs.Lines.{Ran, Taken, taken, carried_after, after_first, run_parts, entries_at}
 use Rattle.ely_domain.specs.Machine.{Machine, step}
 use Rattle.ely_domain.specs.Parts.{Part, parts_of, event_of}
@@ -124,31 +125,45 @@ run_opens given m carried (p ∷ ps) = by_event (λ event. run_opens given (step
 -- ---- what is made
 
 -- nothing was made
-pub makes_nothing : (old : Seen) (actor : ℕ) (made : List Entry) → Makes old old actor ([], old.machine) made made
-makes_nothing old actor made = record { shown = []; are_shown = tt; entries = sym (append-nil made); machine = refl; kept = refl }
+pub makes_nothing : (old : Seen) (actor : ℕ) (made : List Entry) (n : ℕ) → Makes old old actor ([], old.machine) made made n n
+makes_nothing old actor made n = record {
+  shown = [];
+  are_shown = tt;
+  entries = sym (append-nil made);
+  machine = refl;
+  kept = refl;
+  paid = (omega arith, omega arith);
+}
 
 -- one step was made, and it is all
-makes_last : (old new : Seen) (actor : ℕ) (event : Event) (before after : List Entry) → MakesStep old new actor event before after
-    → Makes old new actor (taken old.given old.machine event ∷ [], (step old.given old.machine event).1) before after
-makes_last old new actor event before after s = record {
+makes_last : (old new : Seen) (actor : ℕ) (event : Event) (before after : List Entry) (n k : ℕ) → MakesStep old new actor event before after
+    → RoseBy n k (step_cost old.given old.machine old.kept event)
+    → Makes old new actor (taken old.given old.machine event ∷ [], (step old.given old.machine event).1) before after n k
+makes_last old new actor event before after n k s rose = record {
   shown = s.shown ∷ [];
   are_shown = (s.stands, tt);
   entries = s.entry;
   machine = s.machine;
   kept = s.kept;
+  paid = (rose.0, omega (arith, rose.1));
 }
 
 -- one step was made, and others behind it
-makes_more : (old mid new : Seen) (actor : ℕ) (event : Event) (rest : Ran) (before between after : List Entry) → mid.given ≡ old.given
-    → MakesStep old mid actor event before between → Makes mid new actor rest between after
-    → Makes old new actor (after_first (taken old.given old.machine event) rest) before after
-makes_more old mid new actor event rest before between after same s m = record {
-  shown = s.shown ∷ m.shown;
-  are_shown = (s.stands, rw (same, s.machine, s.kept) at m.are_shown);
-  entries = m.entries ∙ (ap (λ es. es ++ entries_at actor 0 rest.0 m.shown) s.entry ∙ append_assoc before _ _);
-  machine = m.machine;
-  kept = rw (same, s.machine, s.kept) at m.kept;
-}
+makes_more : (old mid new : Seen) (actor : ℕ) (event : Event) (rest : Ran) (before between after : List Entry) (n j k : ℕ) → mid.given ≡ old.given
+    → MakesStep old mid actor event before between → RoseBy n j (step_cost old.given old.machine old.kept event)
+    → Makes mid new actor rest between after j k
+    → Makes old new actor (after_first (taken old.given old.machine event) rest) before after n k
+makes_more old mid new actor event rest before between after n j k same s rose m =
+    let more : RoseBy j k (cost_from old.given (step old.given old.machine event).1 (kept_after old.given old.machine old.kept event (step old.given old.machine event).0 s.shown) rest.0 m.shown) =
+    rw (same, s.machine, s.kept) at m.paid in
+    record {
+      shown = s.shown ∷ m.shown;
+      are_shown = (s.stands, rw (same, s.machine, s.kept) at m.are_shown);
+      entries = m.entries ∙ (ap (λ es. es ++ entries_at actor 0 rest.0 m.shown) s.entry ∙ append_assoc before _ _);
+      machine = m.machine;
+      kept = rw (same, s.machine, s.kept) at m.kept;
+      paid = (omega (arith, rose.0, more.0), omega (arith, rose.1, more.1));
+    }
 
 -- what holds at any rate holds where an error is answered
 pub at_any_rate : {T E : Type 0} (r : Result T E) (P : Type 0) → P → OnErr r P
@@ -181,29 +196,19 @@ module _ (old : Seen) (carried : Option ℕ) (left : List Part) (part : Part) (r
         machine = s.machine;
       }
 
-  -- what the first step costs is no more than all
-  pub rose_first : (before after : ℕ) → RoseBy before after (step_cost old.given old.machine event) → RoseBy before after (cost_from old.given old.machine (run_parts old.given old.machine carried left).0)
-  rose_first before after rose =
-      let first = run_first old.given old.machine carried part rest event is in
-      rw (here, first.1) (rose.0, omega (arith, rose.1))
+  pub made_last : (new : Seen) (actor : ℕ) (before after : List Entry) (n k : ℕ) → is_accepted (step old.given old.machine event).0 ≡ false
+      → MakesStep old new actor event before after → RoseBy n k (step_cost old.given old.machine old.kept event)
+      → Makes old new actor (run_parts old.given old.machine carried left) before after n k
+  made_last new actor before after n k refused s rose =
+      rw (here, run_last old.given old.machine carried part rest event is refused) (makes_last old new actor event before after n k s rose)
 
-  pub rose_more : (before between after : ℕ) → is_accepted (step old.given old.machine event).0 ≡ true → RoseBy before between (step_cost old.given old.machine event)
-      → RoseBy between after (cost_from old.given (step old.given old.machine event).1 (run_parts old.given (step old.given old.machine event).1 (carried_after carried event (step old.given old.machine event)) rest).0)
-      → RoseBy before after (cost_from old.given old.machine (run_parts old.given old.machine carried left).0)
-  rose_more before between after accepted one more =
-      rw (here, run_more old.given old.machine carried part rest event is accepted) (omega (arith, one.0, more.0), omega (arith, one.1, more.1))
-
-  pub made_last : (new : Seen) (actor : ℕ) (before after : List Entry) → is_accepted (step old.given old.machine event).0 ≡ false
-      → MakesStep old new actor event before after → Makes old new actor (run_parts old.given old.machine carried left) before after
-  made_last new actor before after refused s =
-      rw (here, run_last old.given old.machine carried part rest event is refused) (makes_last old new actor event before after s)
-
-  pub made_more : (mid new : Seen) (actor : ℕ) (before between after : List Entry) → mid.given ≡ old.given → is_accepted (step old.given old.machine event).0 ≡ true
-      → MakesStep old mid actor event before between
-      → Makes mid new actor (run_parts old.given (step old.given old.machine event).1 (carried_after carried event (step old.given old.machine event)) rest) between after
-      → Makes old new actor (run_parts old.given old.machine carried left) before after
-  made_more mid new actor before between after same accepted s more =
-      rw (here, run_more old.given old.machine carried part rest event is accepted) (makes_more old mid new actor event _ before between after same s more)
+  pub made_more : (mid new : Seen) (actor : ℕ) (before between after : List Entry) (n j k : ℕ) → mid.given ≡ old.given
+      → is_accepted (step old.given old.machine event).0 ≡ true
+      → MakesStep old mid actor event before between → RoseBy n j (step_cost old.given old.machine old.kept event)
+      → Makes mid new actor (run_parts old.given (step old.given old.machine event).1 (carried_after carried event (step old.given old.machine event)) rest) between after j k
+      → Makes old new actor (run_parts old.given old.machine carried left) before after n k
+  made_more mid new actor before between after n j k same accepted s rose more =
+      rw (here, run_more old.given old.machine carried part rest event is accepted) (makes_more old mid new actor event _ before between after n j k same s rose more)
 
 not_true : (b : Bool) → not b ≡ true → b ≡ false
 not_true true h = sym h
@@ -215,45 +220,42 @@ not_false false h = sym h
 
 -- ---- what is made from an index on leads to the whole line
 
--- From here on this is left of all: whatever makes it, stops in it or pays for it does so for all.
+-- From here on this is left of all: whatever makes it or stops in it does so for all.
 pub record LeadsOn (first now : Seen) (actor : ℕ) (all left : Ran) (start made : List Entry) (before paid : ℕ) : Type 0 where
-  pub makes : (new : Seen) (after : List Entry) → Makes now new actor left made after → Makes first new actor all start after
+  pub makes : (new : Seen) (after : List Entry) (k : ℕ) → Makes now new actor left made after paid k → Makes first new actor all start after before k
   pub stops : (m : Machine) → StopsIn now.given now.machine m left → StopsIn first.given first.machine m all
-  pub pays : (after : ℕ) → RoseBy paid after (cost_from now.given now.machine left.0) → RoseBy before after (cost_from first.given first.machine all.0)
 
 module _ (first now : Seen) (actor : ℕ) (line : ScriptLine) (all : Ran) (start made : List Entry) (before paid : ℕ) (carried : Option ℕ) (index : ℕ)
     (on : LeadsOn first now actor all (run_parts now.given now.machine carried (drop index (parts_of line))) start made before paid) where
   -- behind the last part nothing is left
-  pub no_part : None ≡ slice_get (parts_of line) index → Makes first now actor all start made
+  pub no_part : None ≡ slice_get (parts_of line) index → Makes first now actor all start made before paid
   no_part none =
       let left : run_parts now.given now.machine carried (drop index (parts_of line)) ≡ ([], now.machine) = rw (none_here (parts_of line) index none) (run_nothing now.given now.machine carried) in
-      on.makes now made (rw left (makes_nothing now actor made))
+      on.makes now made paid (rw left (makes_nothing now actor made paid))
 
   module _ (part : Part) (found : Some part ≡ slice_get (parts_of line) index) where
     here : drop index (parts_of line) ≡ part ∷ drop (index + 1) (parts_of line)
     here = part_here (parts_of line) index part found
 
-    pub no_event : event_of part carried ≡ None → Makes first now actor all start made
+    pub no_event : event_of part carried ≡ None → Makes first now actor all start made before paid
     no_event none =
         let left : run_parts now.given now.machine carried (drop index (parts_of line)) ≡ ([], now.machine) = rw here (run_none now.given now.machine carried part (drop (index + 1) (parts_of line)) none) in
-        on.makes now made (rw left (makes_nothing now actor made))
+        on.makes now made paid (rw left (makes_nothing now actor made paid))
 
     module _ (event : Event) (is : event_of part carried ≡ Some event) where
       pub breaks : (m : Machine) → (m ≡ now.machine) ⊎ (m ≡ (step now.given now.machine event).1) → StopsIn first.given first.machine m all
       breaks m stood = on.stops m (stops_first now carried (drop index (parts_of line)) part (drop (index + 1) (parts_of line)) event here is m stood)
 
-      pub pays_first : (after : ℕ) → RoseBy paid after (step_cost now.given now.machine event) → RoseBy before after (cost_from first.given first.machine all.0)
-      pays_first after rose = on.pays after (rose_first now carried (drop index (parts_of line)) part (drop (index + 1) (parts_of line)) event here is paid after rose)
-
       -- the step was refused
-      pub ends : (new : Seen) (after : List Entry) (accepted : Bool) → accepted ≡ is_accepted (step now.given now.machine event).0 → not accepted ≡ true
-          → MakesStep now new actor event made after → Makes first new actor all start after
-      ends new after accepted accepted_is refused s =
-          on.makes new after (made_last now carried (drop index (parts_of line)) part (drop (index + 1) (parts_of line)) event here is new actor made after (sym accepted_is ∙ not_true accepted refused) s)
+      pub ends : (new : Seen) (after : List Entry) (k : ℕ) (accepted : Bool) → accepted ≡ is_accepted (step now.given now.machine event).0 → not accepted ≡ true
+          → MakesStep now new actor event made after → RoseBy paid k (step_cost now.given now.machine now.kept event)
+          → Makes first new actor all start after before k
+      ends new after k accepted accepted_is refused s rose =
+          on.makes new after k (made_last now carried (drop index (parts_of line)) part (drop (index + 1) (parts_of line)) event here is new actor made after paid k (sym accepted_is ∙ not_true accepted refused) s rose)
 
       -- the step was accepted
       module _ (mid : Seen) (between : List Entry) (later : ℕ) (carried' : Option ℕ) (same : mid.given ≡ now.given) (accepted : is_accepted (step now.given now.machine event).0 ≡ true)
-          (s : MakesStep now mid actor event made between) (rose : RoseBy paid later (step_cost now.given now.machine event)) (carried_is : carried' ≡ carried_after carried event (step now.given now.machine event)) where
+          (s : MakesStep now mid actor event made between) (rose : RoseBy paid later (step_cost now.given now.machine now.kept event)) (carried_is : carried' ≡ carried_after carried event (step now.given now.machine event)) where
         abbrev rest : List Part
         rest = drop (index + 1) (parts_of line)
 
@@ -262,10 +264,8 @@ module _ (first now : Seen) (actor : ℕ) (line : ScriptLine) (all : Ran) (start
 
         pub leads : LeadsOn first mid actor all (run_parts mid.given mid.machine carried' rest) start between before later
         leads = record {
-          makes = λ new after h.
-              on.makes new after (made_more now carried (drop index (parts_of line)) part rest event here is mid new actor made between after same accepted s (rw left_is at h));
+          makes = λ new after k h.
+              on.makes new after k (made_more now carried (drop index (parts_of line)) part rest event here is mid new actor made between after paid later k same accepted s rose (rw left_is at h));
           stops = λ m h.
               on.stops m (stops_later now carried (drop index (parts_of line)) part rest event here is m accepted (rw (left_is, same, s.machine) at h));
-          pays = λ after h.
-              on.pays after (rose_more now carried (drop index (parts_of line)) part rest event here is paid later after accepted rose (rw (left_is, same, s.machine) at h));
         }

@@ -3,10 +3,12 @@ use Rattle.std.specs.Prelude.{ℕ, ◌≡◌, ◌<◌, ◌-◌, ◌^◌, List, [
 use Rattle.ely_script.specs.declared.entry.Entry.{Entry}
 use Rattle.ely_script.specs.declared.word.CacheWord.{CacheWord}
 use Rattle.ely_domain.specs.declared.event.Event.{Event}
+use Rattle.ely_domain.specs.Costs.{RoseBy, cost_from}
 use Rattle.ely_domain.specs.Domains.{Seen}
 use Rattle.ely_domain.specs.Given.{Given}
 use Rattle.ely_domain.specs.Histories.{machine_after}
-use Rattle.ely_domain.specs.Keeping.{word_due, stands_for, kept_after}
+use Rattle.ely_domain.specs.Keeping.{word_due, kept_after}
+use Rattle.ely_domain.specs.KeptKeys.{stands_for}
 use Rattle.ely_domain.specs.Lines.{Taken, Ran, taken, entry_at, entries_at, AreShown, kept_past}
 use Rattle.ely_domain.specs.Machine.{Machine, step}
 use Rattle.ely_domain.specs.Parts.{Part}
@@ -19,13 +21,15 @@ pub record MakesStep (old new : Seen) (actor : ℕ) (event : Event) (before afte
   pub machine : new.machine ≡ (step old.given old.machine event).1
   pub kept : new.kept ≡ kept_after old.given old.machine old.kept event (step old.given old.machine event).0 shown
 
--- these steps were made: their entries, with words that may be shown, are behind the others, and the domain stands after them
-pub record Makes (old new : Seen) (actor : ℕ) (ran : Ran) (before after : List Entry) : Type 0 where
+-- these steps were made: their entries, with words that may be shown, are behind the others, the domain stands after them, and
+-- the counter rose by their cost at most
+pub record Makes (old new : Seen) (actor : ℕ) (ran : Ran) (before after : List Entry) (counted counts : ℕ) : Type 0 where
   pub shown : List CacheWord
   pub are_shown : AreShown old.given old.machine old.kept ran.0 shown
   pub entries : after ≡ before ++ entries_at actor 0 ran.0 shown
   pub machine : new.machine ≡ ran.1
   pub kept : new.kept ≡ kept_past old.given old.machine old.kept ran.0 shown
+  pub paid : RoseBy counted counts (cost_from old.given old.machine old.kept ran.0 shown)
 
 -- some first steps of these were made
 pub record StopsIn (given : Given) (old new : Machine) (ran : Ran) : Type 0 where

@@ -8,7 +8,8 @@ use Rattle.ely_domain.specs.Given.{Given}
 use Rattle.ely_domain.specs.Machine.{first_machine}
 use Rattle.ely_domain.specs.Costs.{cost_from}
 use Rattle.ely_domain.specs.Headline.{IsHistoryOf}
-use Rattle.ely_domain.specs.Replays.{Told, entry_of, steps_told}
+use Rattle.ely_domain.specs.Keeping.{first_kept}
+use Rattle.ely_domain.specs.Replays.{Told, entry_of, steps_told, words_told}
 use Rattle.ely_front.specs.FirstLine.{Configures}
 
 -- what a reader of lines gave, read as a line of the script: nothing at the end
@@ -25,9 +26,10 @@ script_of lines = map read_of lines
 abbrev pub text_of : List Told → List ℕ
 text_of h = text (map entry_of h)
 
--- how many HMAC computations a history takes: each naming derives its key, and each check tries its password
+-- how many HMAC computations a history takes: each naming derives its key, unless it found it, and each check tries what was
+-- shown
 unfoldable pub cost_of : Given → List Told → ℕ
-cost_of given h = cost_from given (first_machine given) (steps_told h)
+cost_of given h = cost_from given (first_machine given) (first_kept given) (steps_told h) (words_told h)
 
 -- the text of a history of these lines
 abbrev pub IsTextOf : Given → List ScriptLine → List ℕ → Type 0

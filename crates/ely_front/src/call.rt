@@ -14,6 +14,7 @@ use crate::lines::replay_lines;
 use crate::replay::Replay;
 use ely_hash::Steps;
 use ely_io::{Sink, Source};
+use ely_job::discard;
 use std::alloc::Global;
 use std::sync::ledger::Ledger;
 
@@ -37,11 +38,13 @@ fn replay_script<S: Source, K: Sink, L: Ledger>(
     if begun.reader.ended() {
         return Ending::Done;
     }
-    let replay = match Replay::new(alloc, begun.setup) {
+    let mut replay = match Replay::new(alloc, begun.setup) {
         Ok(replay) => replay,
         Err(_) => return Ending::NoMemory,
     };
-    replay_lines(alloc, replay, &mut begun.reader, source, sink, steps)
+    let ending = replay_lines(alloc, &mut replay, &mut begun.reader, source, sink, steps);
+    discard(replay);
+    ending
 }
 
 /// Replays the script that the source gives, in file order, and answers each line before it reads the next. Gives the exit

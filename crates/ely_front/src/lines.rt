@@ -87,7 +87,7 @@ fn write_on<K: Sink>(sink: &mut K, out: &mut Vec<u8>, more: bool) -> Result<(), 
 /// read again.
 pub(crate) fn replay_lines<S: Source, K: Sink, L: Ledger>(
     alloc: Global,
-    mut replay: Replay,
+    replay: &mut Replay,
     reader: &mut LineReader,
     source: &mut S,
     sink: &mut K,
@@ -95,7 +95,7 @@ pub(crate) fn replay_lines<S: Source, K: Sink, L: Ledger>(
 ) -> Ending
     ghost start: { Moment }
     requires { IsUnderWay start
-        (at (S.seen source.old) (K.seen sink.old) steps.old) reader.old replay [] }
+        (at (S.seen source.old) (K.seen sink.old) steps.old) reader.old replay.old [] }
     ensures ends { EndsAs start (at (S.seen source.new) (K.seen sink.new) steps.new) result }
     ensures read { result ≡ Ending.Read
         → Rose (S.seen source.old).faults (S.seen source.new).faults }
@@ -108,7 +108,7 @@ pub(crate) fn replay_lines<S: Source, K: Sink, L: Ledger>(
             Ok(line) => line,
             Err(refused) => return stop(sink, &out, refused),
         };
-        if let Err(_) = answer_line(alloc, &mut replay, &line, &mut out, steps) {
+        if let Err(_) = answer_line(alloc, replay, &line, &mut out, steps) {
             return stop(sink, &out, Refused::NoMemory);
         }
         if let Err(_) = write_on(sink, &mut out, reader.has_line()) {

@@ -19,5 +19,3 @@ mod lists;
 mod mac;
 mod steps;
 mod tag;
-#[cfg(test)]
-mod tests;

@@ -20,6 +20,3 @@ pub use run::password_verdict;
 pub use scram::scram_verdict;
 pub use taking::discard;
 pub use verdict::{Finished, Verdict};
-
-#[cfg(test)]
-mod tests;

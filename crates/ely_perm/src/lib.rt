@@ -16,6 +16,3 @@ pub use laws::{
 pub use mode::Mode;
 pub use permissions::{Permissions, granted};
 pub use row::PermRow;
-
-#[cfg(test)]
-mod tests;

@@ -21,6 +21,3 @@ pub use pipeline::Pipeline;
 pub use place::{PipeFault, Place};
 pub use resolving::resolve;
 pub use rule::Rule;
-
-#[cfg(test)]
-mod tests;

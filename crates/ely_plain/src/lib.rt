@@ -4,6 +4,3 @@
 mod message;
 
 pub use message::{PlainFault, PlainMsg, read_plain};
-
-#[cfg(test)]
-mod tests;

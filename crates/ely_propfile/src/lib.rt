@@ -20,6 +20,3 @@ pub use groups::read_groups;
 pub use laws::{names_are_as_written, rows_are_by_name};
 pub use rows::rows_of;
 pub use users::read_users;
-
-#[cfg(test)]
-mod tests;

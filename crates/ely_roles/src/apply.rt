@@ -60,7 +60,7 @@ pub fn mapped_by(alloc: Global, mapper: &RoleMapper, roles: &Roles) -> Result<Ro
     ensures { IfOk result (λ after. after ≡ mapped_by mapper.now roles.now) }
 {
     match mapper {
-        RoleMapper::Constant { roles } => Ok(Roles::of(alloc, copy_names(alloc, roles.all())?)?),
+        RoleMapper::Constant { roles } => Ok(Roles::of(copy_names(alloc, roles.all())?)),
         RoleMapper::AddPrefix { text } => Ok(with_prefix(alloc, text, roles)?),
         RoleMapper::AddSuffix { text } => Ok(with_suffix(alloc, text, roles)?),
         RoleMapper::Aggregate { of } => Ok(in_turn(alloc, of.as_slice(), roles)?),

@@ -37,7 +37,7 @@ pub fn with_prefix(alloc: Global, text: &Name, roles: &Roles) -> Result<Roles, N
             names.push(name)?;
         }
     }
-    Roles::of(alloc, names)
+    Ok(Roles::of(names))
 }
 
 /// Each role with the text behind it. A role that would be too long is left out.
@@ -50,5 +50,5 @@ pub fn with_suffix(alloc: Global, text: &Name, roles: &Roles) -> Result<Roles, N
             names.push(name)?;
         }
     }
-    Roles::of(alloc, names)
+    Ok(Roles::of(names))
 }

@@ -21,6 +21,3 @@ pub use laws::{
 };
 pub use mapper::{RoleMapper, SetOp};
 pub use roles::roles_of;
-
-#[cfg(test)]
-mod tests;

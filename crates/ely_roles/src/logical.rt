@@ -54,5 +54,5 @@ pub fn joined(alloc: Global, op: SetOp, left: &Roles, right: &Roles) -> Result<R
     let mut names = Vec::new(alloc);
     push_kept(alloc, &mut names, left, right, shared, left_alone)?;
     push_kept(alloc, &mut names, right, left, false, right_alone)?;
-    Roles::of(alloc, names)
+    Ok(Roles::of(names))
 }

@@ -92,5 +92,5 @@ pub fn mapped(
     for role in roles.all() {
         push_given(alloc, &mut names, pairs, keep_mapped, keep_non_mapped, role)?;
     }
-    Roles::of(alloc, names)
+    Ok(Roles::of(names))
 }

@@ -15,8 +15,8 @@ fn values_of(alloc: Global, attr: &Name, row: &Row) -> Result<Roles, NoMemory>
     ensures { IfOk result (λ roles. roles ≡ values_of attr.now row.now) }
 {
     match row.attr(attr) {
-        None => Ok(Roles::of(alloc, Vec::new(alloc))?),
-        Some(values) => Ok(Roles::of(alloc, copy_names(alloc, values.all())?)?),
+        None => Ok(Roles::of(Vec::new(alloc))),
+        Some(values) => Ok(Roles::of(copy_names(alloc, values.all())?)),
     }
 }
 

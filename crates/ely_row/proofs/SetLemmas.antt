@@ -1,17 +1,19 @@
 -- What is in a set of names; and that a set is told by what is in it.
 use Rattle.std.proofs.Common.{◌≡◌, ℕ, Bool, true, false, ◌||◌, ◌&&◌, List, [], ◌∷◌, ◌++◌, refl, sym, ap, ◌∙◌}
-use Rattle.std.specs.Prelude.{fold, filter}
+use Rattle.std.specs.Prelude.{fold, filter, cond}
 use Rattle.std.specs.declared.cmp.Ordering.{Ordering}
 use Rattle.std.specs.declared.cmp.Ordering.TheVariants.{Less, Equal, Greater}
-use Rattle.std.specs.Ordering.{ordering_reverse, match_ordering}
-use Rattle.std.specs.List.{AllByRecursion, list_any}
-use Rattle.std.specs.List.Sorted.{IsStrictlySortedBy}
+use Rattle.std.specs.Ordering.{ordering_reverse, match_ordering, eq_by_cmp}
+use Rattle.std.specs.List.{AllByRecursion, list_any, dedup, dedup_from}
+use Rattle.std.specs.List.Sorted.{IsPermutation, IsSorted, IsStrictlySortedBy}
 use Rattle.std.specs.Str.{bytes_eq}
 use Rattle.std.specs.BTreeMap.{is_at}
 use Rattle.std.specs.BTreeSet.{BTreeSet, insert_key}
 use Rattle.std.proofs.lemmas.Cmp.{nat_list_cmp_total, nat_list_eq_equiv}
 use Rattle.std.proofs.lemmas.Map.Lookups.{btree_set_from_contains, exact_bytes}
 use Rattle.std.proofs.lemmas.List.Folds.{list_any-append}
+use Rattle.std.proofs.lemmas.List.Kept.{IsStrictlySortedBy-dedup}
+use Rattle.std.proofs.lemmas.List.Sorted.{list_any-IsPermutation}
 use Rattle.std.proofs.lemmas.Map.Text.{is_eq-slice_cmp}
 use Rattle.std.proofs.lemmas.Map.Views.{any-filter_same}
 use Rattle.std.proofs.lemmas.Slice.Eq.{bytes_eq-Decides}
@@ -117,3 +119,29 @@ is_among-append a b name = list_any-append (λ n. bytes_eq n name) a b
 
 pub is_among-filter : (p : List ℕ → Bool) (names : List (List ℕ)) (name : List ℕ) → is_among (filter p names) name ≡ (p name && is_among names name)
 is_among-filter p names name = any-filter_same (λ n. bytes_eq n name) p (p name) (λ n same. ap p ((bytes_eq-Decides n name).0 same)) names
+
+-- ---- a list that is sorted and rid of doubles is the set of its names
+
+is_among-dedup_from : (k : List ℕ) (xs : List (List ℕ)) (name : List ℕ) → is_among (dedup_from bytes_eq k xs) name ≡ (bytes_eq k name || is_among xs name)
+is_among-dedup_from k [] name = refl
+is_among-dedup_from k (x ∷ xs) name = by (bytes_eq x k) refl (is_among-dedup_from k xs name) (is_among-dedup_from x xs name)
+  where
+    by : (b : Bool) → bytes_eq x k ≡ b → is_among (dedup_from bytes_eq k xs) name ≡ (bytes_eq k name || is_among xs name)
+        → is_among (dedup_from bytes_eq x xs) name ≡ (bytes_eq x name || is_among xs name)
+        → is_among (cond b (dedup_from bytes_eq k xs) (k ∷ dedup_from bytes_eq x xs)) name ≡ (bytes_eq k name || (bytes_eq x name || is_among xs name))
+    by true same past kept =
+        past ∙ or-twice (bytes_eq k name) (is_among xs name)
+        ∙ ap (λ y. bytes_eq k name || (bytes_eq y name || is_among xs name)) (sym ((bytes_eq-Decides x k).0 same))
+    by false other past kept = ap (λ b. bytes_eq k name || b) kept
+
+is_among-dedup : (names : List (List ℕ)) (name : List ℕ) → is_among (dedup bytes_eq names) name ≡ is_among names name
+is_among-dedup [] name = refl
+is_among-dedup (x ∷ xs) name = is_among-dedup_from x xs name
+
+pub as_set-sorted : (names sorted : List (List ℕ)) → IsPermutation names sorted → IsSorted name_cmp sorted → dedup bytes_eq sorted ≡ as_set names
+as_set-sorted names sorted moved rise =
+    same_sets (dedup bytes_eq sorted) (as_set names) (IsStrictlySortedBy-dedup nat_list_cmp_total alike sorted rise) (IsSet-as_set names)
+    (λ name. is_among-dedup sorted name ∙ sym (list_any-IsPermutation (λ n. bytes_eq n name) names sorted moved) ∙ sym (is_among-as_set names name))
+  where
+    alike : (x y : List ℕ) → bytes_eq x y ≡ eq_by_cmp name_cmp x y
+    alike x y = sym (is_eq-slice_cmp x y)

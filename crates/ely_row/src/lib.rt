@@ -35,6 +35,3 @@ pub use salted::{Salted, is_salt};
 pub use sets::sets_are_their_names;
 pub use shared::{RowSource, SharedRow};
 pub use values::Values;
-
-#[cfg(test)]
-mod tests;

@@ -5,7 +5,6 @@ ghost use Rattle.ely_row.specs.Sets.{as_set, is_among, IsSet};
 
 use ely_base::{Items, Name, NoMemory, copy_names};
 use std::alloc::Global;
-use std::collections::BTreeSet;
 use std::marker::Model;
 
 /// A set of names, seen as the list of its names in the order of their bytes, each once.
@@ -32,39 +31,17 @@ pub fn is_among(names: &[Name], name: &Name) -> bool
     names.iter().any(|one| one.is(name))
 }
 
-/// The names in an ordered set.
-#[tactic(auto, using(std::proofs::lemmas::List::Sums::fold_more))]
-fn set_of(alloc: Global, names: Vec<Name>) -> Result<BTreeSet<Name>, NoMemory>
-    ensures { IfOk result (λ set. set.keys ≡ as_set names.items) }
-{
-    let mut set = BTreeSet::new(alloc);
-    for name in names {
-        set.insert(name)?;
-    }
-    Ok(set)
-}
-
-/// The names of an ordered set, in its order.
-fn listed(alloc: Global, set: BTreeSet<Name>) -> Result<Vec<Name>, NoMemory>
-    ensures names { IfOk result (λ list. list.items ≡ set.keys) }
-    ensures rise { IfOk result (λ list. IsSet list.items) }
-{
-    let mut list = Vec::new(alloc);
-    for name in set {
-        list.push(name)?;
-    }
-    Ok(list)
-}
-
 impl Roles {
-    /// The names as a set, however often and in which order they stand.
-    pub fn of(alloc: Global, names: Vec<Name>) -> Result<Roles, NoMemory>
-        ensures { IfOk result (λ roles. roles ≡ as_set names.items) }
+    /// The names as a set, however often and in which order they stand. It takes no memory.
+    pub fn of(names: Vec<Name>) -> Roles
+        ensures { result ≡ as_set names.items }
     {
-        let set = set_of(alloc, names)?;
-        Ok(Roles {
-            names: Items::of(listed(alloc, set)?),
-        })
+        let mut names = names;
+        names.sort_unstable();
+        names.dedup();
+        Roles {
+            names: Items::of(names),
+        }
     }
 
     /// The names, in the order of their bytes.

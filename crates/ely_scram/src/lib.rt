@@ -8,5 +8,3 @@
 pub use judgement::{Judged, judge};
 
 mod judgement;
-#[cfg(test)]
-mod tests;

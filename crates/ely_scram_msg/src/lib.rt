@@ -20,6 +20,3 @@ pub use first::{ClientFirst, FirstView, Flag, read_client_first, scan_client_fir
 pub use last::{ClientLast, LastView, read_client_last, scan_client_last};
 pub use laws::{first_is_in_grammar, last_is_in_grammar};
 pub use server::{ServerError, error_text, write_server_first, write_verifier};
-
-#[cfg(test)]
-mod tests;

@@ -26,6 +26,3 @@ pub use line::{read_line, too_long};
 pub use outcome::{BadLine, Outcome};
 pub use print::{print_step, push_step};
 pub use word::{CacheWord, StateWord, StepWord, mech_word};
-
-#[cfg(test)]
-mod tests;

@@ -13,6 +13,3 @@ mod tables;
 pub use class::RealmClass;
 pub use laws::rows_are_counted;
 pub use tables::Tables;
-
-#[cfg(test)]
-mod tests;

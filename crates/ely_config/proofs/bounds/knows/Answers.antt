@@ -1,4 +1,4 @@
-use Rattle.std.proofs.Common.{rules, ◌∙◌, ℕ, List, bytes_eq, arith}
+use Rattle.std.proofs.Common.{rules, ◌∙◌, ℕ, List, bytes_eq}
 use Rattle.std.specs.Prelude.{Option}
 use Rattle.std.proofs.lemmas.Iterator.{YieldsList-from_slice, YieldsList-from_zip}
 use Rattle.std.proofs.lemmas.Iterator.Search.{all_from_yields_List}

@@ -1,6 +1,7 @@
 use Rattle.std.proofs.Common.{ap, sym, ◌∙◌, not}
 use Rattle.std.specs.Prelude.{position}
-use Rattle.ely_config.specs.Configs.{is_named, missing_realm}
+use Rattle.ely_config.specs.Realms.{is_named}
+use Rattle.ely_config.specs.Configs.{missing_realm}
 use Rattle.ely_config.proofs.bounds.missing_realm.Goals as goal
 
 pub returns-in-MapAfter : goal.returns-in-MapAfter

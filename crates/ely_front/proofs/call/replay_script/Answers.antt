@@ -23,8 +23,8 @@ returns-in-Err-new-clause-ends g c =
     subst (λ (m : Moment). EndsAs m (at (g.S.Source.seen c.read_first_line.new.source) (g.K.Sink.seen c.read_first_line.new.sink) c.args.steps.now) ending.NoMemory) (sym c.requires.1.1.1)
     (unmade (g.S.Source.seen c.args.source.now) (g.S.Source.seen c.read_first_line.new.source) (g.K.Sink.seen c.args.sink.now) (g.K.Sink.seen c.read_first_line.new.sink) c.args.steps.now c.in-Ok.begun.reader c.in-Ok.begun.setup c.in-Ok.ensures.begun same)
 
-pub replay_lines-requires : goal.replay_lines-requires
-replay_lines-requires g c κs within =
+pub replay_lines-ending-requires : goal.replay_lines-ending-requires
+replay_lines-ending-requires g c κs within =
     let same = ap g.K.Sink.seen c.in-Ok.ensures.unwritten in
     let open_still : c.in-Ok.begun.reader.ended ≡ false = cc in
     let now = under_way (g.S.Source.seen c.args.source.now) (g.S.Source.seen c.read_first_line.new.source) (g.K.Sink.seen c.args.sink.now) (g.K.Sink.seen c.read_first_line.new.sink) c.args.steps.now c.in-Ok.begun.reader c.in-Ok.begun.setup c.in-Ok.ensures.begun same c.in-Ok-new.replay open_still c.in-Ok-new.ensures in (

@@ -1,7 +1,7 @@
 use Rattle.std.proofs.Common.{◌∙◌, ◌<◌, ◌-◌, ◌^◌, sym}
 use Rattle.ely_domain.specs.PartViews.{seen_part}
 use Rattle.ely_domain.specs.Parts.{parts_of}
-use Rattle.ely_front.proofs.RunLemmas.{at_any_rate, no_part, no_event, breaks, pays_first, ends, leads, not_false, part_here, room_next}
+use Rattle.ely_front.proofs.RunLemmas.{at_any_rate, no_part, no_event, breaks, ends, leads, not_false, part_here, room_next}
 use Rattle.ely_front.proofs.line.run_into.Goals as goal
 
 pub take_step-requires : goal.take_step-requires
@@ -21,20 +21,11 @@ returns-in_err-went-clause-err g c =
     (breaks _ _ _ c.args.line.now _ _ _ _ _ c.loop-part.carried c.loop-part.index c.loop-part.invariant.leads_on (seen_part c.in-Some.part) c.in-Some.ensures c.in-Some-2.event (sym c.in_ok-event.ensures ∙ c.in-Some-2.is)
     c.take_step.new.domain.machine c.in_err-went.ensures.err)
 
-pub returns-in_err-went-clause-cost : goal.returns-in_err-went-clause-cost
-returns-in_err-went-clause-cost g c =
-    pays_first _ _ _ c.args.line.now _ _ _ _ _ c.loop-part.carried c.loop-part.index c.loop-part.invariant.leads_on (seen_part c.in-Some.part) c.in-Some.ensures c.in-Some-2.event (sym c.in_ok-event.ensures ∙ c.in-Some-2.is)
-    c.take_step.new.steps c.take_step.ensures.cost
-
 pub returns-then-not-went-clause-made : goal.returns-then-not-went-clause-made
 returns-then-not-went-clause-made g c =
     ends _ _ _ c.args.line.now _ _ _ _ _ c.loop-part.carried c.loop-part.index c.loop-part.invariant.leads_on (seen_part c.in-Some.part) c.in-Some.ensures c.in-Some-2.event (sym c.in_ok-event.ensures ∙ c.in-Some-2.is)
-    c.take_step.new.domain c.take_step.new.entries.items c.in_ok-went.went.accepted c.in_ok-went.ensures.accepted c.if-not-went.true (rw c.actor_of-actor.ensures at c.in_ok-went.ensures.made)
-
-pub returns-then-not-went-clause-cost : goal.returns-then-not-went-clause-cost
-returns-then-not-went-clause-cost g c =
-    pays_first _ _ _ c.args.line.now _ _ _ _ _ c.loop-part.carried c.loop-part.index c.loop-part.invariant.leads_on (seen_part c.in-Some.part) c.in-Some.ensures c.in-Some-2.event (sym c.in_ok-event.ensures ∙ c.in-Some-2.is)
-    c.take_step.new.steps c.take_step.ensures.cost
+    c.take_step.new.domain c.take_step.new.entries.items c.take_step.new.steps c.in_ok-went.went.accepted c.in_ok-went.ensures.accepted c.if-not-went.true (rw c.actor_of-actor.ensures at c.in_ok-went.ensures.made)
+    c.take_step.ensures.cost
 
 pub loop-part-preserved : goal.loop-part-preserved
 loop-part-preserved g c =

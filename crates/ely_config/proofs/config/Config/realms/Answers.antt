@@ -1,5 +1,5 @@
 use Rattle.std.proofs.Common.{subst}
-use Rattle.ely_config.specs.Configs.{AreSound}
+use Rattle.ely_config.specs.Realms.{AreSound}
 use Rattle.ely_config.proofs.RealmLemmas.{sound_realms}
 use Rattle.ely_config.proofs.config.Config.realms.Goals as goal
 

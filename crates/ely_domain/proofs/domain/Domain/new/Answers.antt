@@ -1,21 +1,32 @@
-use Rattle.std.proofs.Common.{◌≡◌, ap, refl, sym, subst}
-use Rattle.ely_config.specs.Configs.{Config}
-use Rattle.ely_domain.specs.Contexts.{IsSound, read_of}
-use Rattle.ely_domain.specs.Given.{realms}
+use Rattle.std.proofs.Common.{ap, refl}
+use Rattle.ely_domain.specs.Contexts.{read_of}
+use Rattle.ely_domain.proofs.Loadings.{caches_sized}
 use Rattle.ely_domain.proofs.Moving.{nothing_sound}
 use Rattle.ely_domain.proofs.domain.Domain.new.Goals as goal
 
-pub invariant_of-result : goal.invariant_of-result
-invariant_of-result c = c.config.invariant
+pub first_caches-requires : goal.first_caches-requires
+first_caches-requires c =
+    let config = c.config-2.result.now in
+    rw c.realms.ensures.value (caches_sized config.digest_realm config.realms c.realms.ensures.sound)
 
-pub invariant_of-result-2 : goal.invariant_of-result-2
-invariant_of-result-2 c =
-    let tables = c.in_ok-first_tables.field-0 in
-    subst (λ (config : Config). (tables.realms ≡ realms (record { config = config; limit = tables.limit }))
-    × IsSound (read_of config tables) c.new.result c.new-3.result) (sym c.config.view_is) (
-      ap (λ t. t.realms) c.in_ok-first_tables.ensures,
-      nothing_sound (read_of c.args.config tables) c.new.result c.new-3.result c.new.ensures,
+pub invariant_of-result : goal.invariant_of-result
+invariant_of-result c =
+    let known = read_of c.in_ok-planned.planned c.in_ok-tables.tables in (
+      rw c.config.ensures at (ap (λ t. t.realms) c.in_ok-tables.ensures),
+      nothing_sound known c.new-2.result c.new-3.result c.new-2.ensures,
+      c.in_ok-caches.ensures.current known,
     )
 
 pub returns : goal.returns
-returns c = rw (c.config.view_is, c.in_ok-first_tables.ensures, c.new.ensures, c.in_ok-new.ensures) refl
+returns c =
+    rw (
+      c.in_ok-caches.ensures.lists,
+      c.realms.ensures.value,
+      c.config-2.ensures,
+      c.in_ok-tables.ensures,
+      c.config.ensures,
+      c.in_ok-planned.ensures,
+      c.new-2.ensures,
+      c.in_ok-nonces.ensures,
+    )
+    refl

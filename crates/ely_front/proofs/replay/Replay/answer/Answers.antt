@@ -22,7 +22,6 @@ answered g c = record {
   others = rw c.actor_of.ensures at c.in_ok-number.ensures.others;
   number_is = rw c.deref.ensures.value at c.in-Ok.ensures.number;
   said_is = refl;
-  paid = c.run_into.ensures.cost;
 }
 
 pub returns-in-Ok-clause-answered : goal.returns-in-Ok-clause-answered

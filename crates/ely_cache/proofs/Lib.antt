@@ -1,0 +1,13 @@
+pub mod Beginnings
+pub mod ByBytes
+pub mod Counts
+pub mod Drops
+pub mod EachEntries
+pub mod Items
+pub mod KeptFacts
+pub mod Places
+pub mod Ranges
+pub mod RealmCaches
+pub mod Rests
+pub mod Ties
+pub mod Views

@@ -1,4 +1,0 @@
-use Rattle.ely_cred.proofs.tests.guessed.Given as goal
-
-abbrev pub ghosts-counted_guess : goal.ghosts-counted_guess
-ghosts-counted_guess a = record { name = a.blank.name; parts = a.blank.parts }

@@ -1,5 +1,0 @@
-use Rattle.ely_front.proofs.rules_tests.printed.Given as goal
-
--- the counter's ledger is the one that was opened for it
-abbrev pub ghosts-counted : goal.ghosts-counted
-ghosts-counted a = record { name = a.blank.name; parts = a.blank.parts }
