@@ -6,12 +6,13 @@ use crate::config::{config_of, counted, domain_of, push_line};
 use crate::making::{behind, beside, put};
 use ely_base::{Bytes, CtxId, Items, Name, NoMemory, Serial};
 use ely_config::{Config, Members, RealmConfig, RealmKind};
+use ely_digest_msg::DigestAlg;
 use ely_domain::{Domain, Event};
 use ely_hash::Steps;
 use ely_job::{Done, Job, discard};
 use ely_pipeline::Rule;
 use ely_row::Params;
-use ely_script::{Claim, Entry, push_step};
+use ely_script::{Claim, Entry, Evidence, push_step};
 use std::alloc::Global;
 use std::marker::Brand;
 use std::sync::ledger::{Blank, Ledger};
@@ -265,10 +266,14 @@ enum Brings {
 enum Move<'a> {
     /// The line is run without pause.
     Line(&'a [u8]),
-    /// The first half of the naming of `user` in the login with this id.
+    /// The first half of the naming of `user` in the login by PLAIN with this id.
     Begin(u32),
+    /// The same in a login by Digest.
+    BeginDigest(u32),
     /// The second half, of the open with this serial.
     End(u32, u64, Brings),
+    /// Both halves of a check by PLAIN, with this password.
+    Check(u32, u64, &'a [u8]),
 }
 
 /// The jobs that namings handed out: that of the first one, and that of the last.
@@ -298,6 +303,19 @@ fn begin(alloc: Global, ctx: u32) -> Result<Event, NoMemory> {
     let name = name(alloc, b"user")?;
     let claim = Claim::Plain {
         authzid: None,
+        name,
+    };
+    Ok(Event::Name1 {
+        ctx: CtxId(ctx),
+        claim,
+    })
+}
+
+/// The same of a login by Digest.
+fn begin_digest(alloc: Global, ctx: u32) -> Result<Event, NoMemory> {
+    let name = name(alloc, b"user")?;
+    let claim = Claim::Digest {
+        alg: DigestAlg::Md5,
         name,
     };
     Ok(Event::Name1 {
@@ -373,6 +391,52 @@ fn copied(alloc: Global, job: &Option<Job>) -> Result<Option<Job>, NoMemory> {
     }
 }
 
+/// Makes the first half of a naming, keeps the job that it hands out, and gives the number of the next step.
+fn begun<L: Ledger>(
+    alloc: Global,
+    domain: &mut Domain,
+    event: Event,
+    jobs: &mut Jobs,
+    number: u64,
+    out: &mut Vec<u8>,
+    steps: &mut Steps<L>,
+) -> Result<u64, NoMemory> {
+    let job = take(alloc, domain, event, number, out, steps)?;
+    let copied = copied(alloc, &job);
+    let (job, first) = beside(job, copied)?;
+    if jobs.first.is_none() {
+        put(&mut jobs.first, first);
+    }
+    put(&mut jobs.last, job);
+    Ok(number.saturating_add(1))
+}
+
+/// Makes both halves of a check, and gives the number of the next step.
+fn check<L: Ledger>(
+    alloc: Global,
+    domain: &mut Domain,
+    (ctx, serial, password): (u32, u64, &[u8]),
+    number: u64,
+    out: &mut Vec<u8>,
+    steps: &mut Steps<L>,
+) -> Result<u64, NoMemory> {
+    let ctx = CtxId(ctx);
+    let serial = Serial(serial);
+    let first = Event::Check1 {
+        ctx,
+        serial: Some(serial),
+        evidence: Evidence::Plain {
+            password: Bytes::copy_of(alloc, password)?,
+        },
+    };
+    discard(take(alloc, domain, first, number, out, steps)?);
+    let next = number.saturating_add(1);
+    let done = None;
+    let second = Event::Check2 { ctx, serial, done };
+    discard(take(alloc, domain, second, next, out, steps)?);
+    Ok(next.saturating_add(1))
+}
+
 /// Makes the move, and gives the number of the next step.
 fn made<L: Ledger>(
     alloc: Global,
@@ -387,14 +451,14 @@ fn made<L: Ledger>(
         Move::Line(text) => push_line(alloc, domain, text, 0, number, out, steps),
         Move::Begin(ctx) => {
             let event = begin(alloc, ctx)?;
-            let job = take(alloc, domain, event, number, out, steps)?;
-            let copied = copied(alloc, &job);
-            let (job, first) = beside(job, copied)?;
-            if jobs.first.is_none() {
-                put(&mut jobs.first, first);
-            }
-            put(&mut jobs.last, job);
-            Ok(number.saturating_add(1))
+            begun(alloc, domain, event, jobs, number, out, steps)
+        }
+        Move::BeginDigest(ctx) => {
+            let event = begin_digest(alloc, ctx)?;
+            begun(alloc, domain, event, jobs, number, out, steps)
+        }
+        Move::Check(ctx, serial, password) => {
+            check(alloc, domain, (ctx, serial, password), number, out, steps)
         }
         Move::End(ctx, serial, brings) => {
             end(
@@ -542,12 +606,82 @@ const OTHERS_TEXT: &[u8] = b"1 0 0 add ok 1
 12 0 0 open ok 3
 ";
 
+/// An edit comes between the halves: the login goes on with the credentials that were pinned, its key is kept nowhere, and
+/// the next login has those of the edit.
+const BOTH: [Move<'_>; 14] = [
+    ADD,
+    KEY,
+    OPEN,
+    Move::Begin(1),
+    Move::Line(b"0 set-cred main user 1 clear password"),
+    Move::End(1, 1, Brings::Nothing),
+    Move::Check(1, 1, b"pencil"),
+    Move::Line(b"0 authorize 1"),
+    Move::Line(b"0 succeed 1"),
+    SECOND,
+    Move::Begin(2),
+    Move::End(2, 2, Brings::Nothing),
+    Move::Check(2, 2, b"password"),
+    Move::Line(b"0 authorize 2"),
+];
+
+const BOTH_TEXT: &[u8] = b"1 0 0 add ok 1
+2 0 0 set-cred ok 2
+3 0 0 open ok 1
+4 0 0 name1 pinned 2 miss
+5 0 0 set-cred ok 3
+6 0 0 name2 named late
+7 0 0 check1 ok
+8 0 0 check2 proved
+9 0 0 authorize authorized
+10 0 0 succeed established 2 front user roles=
+11 0 0 open ok 2
+12 0 0 name1 pinned 3 miss
+13 0 0 name2 named kept
+14 0 0 check1 ok
+15 0 0 check2 proved
+16 0 0 authorize authorized
+";
+
+/// What came of a job of another mechanism is no key of this one, and keys of both are kept.
+const MECHANISMS: [Move<'_>; 12] = [
+    ADD,
+    KEY,
+    OPEN,
+    Move::Begin(1),
+    Move::End(1, 1, Brings::Last),
+    Move::Line(b"0 open 2 DIGEST xyz"),
+    Move::BeginDigest(2),
+    Move::End(2, 2, Brings::First),
+    Move::Line(b"0 open 3 PLAIN"),
+    Move::Begin(3),
+    Move::End(3, 3, Brings::First),
+    Move::Check(3, 3, b"pencil"),
+];
+
+const MECHANISMS_TEXT: &[u8] = b"1 0 0 add ok 1
+2 0 0 set-cred ok 2
+3 0 0 open ok 1
+4 0 0 name1 pinned 2 miss
+5 0 0 name2 named kept
+6 0 0 open ok 2 Digest realm=\"ManagementRealm\", qop=\"auth\", algorithm=MD5, nonce=\"xyz\"
+7 0 0 name1 pinned 2 miss
+8 0 0 name2 named kept
+9 0 0 open ok 3
+10 0 0 name1 pinned 2 hit
+11 0 0 name2 named -
+12 0 0 check1 ok
+13 0 0 check2 proved
+";
+
 #[test]
 fn a_late_fill_is_kept_nowhere(rt: HostRuntime) -> Result<(), Fail> {
-    let rows: [(&[Move<'_>], &[u8]); 3] = [
+    let rows: [(&[Move<'_>], &[u8]); 5] = [
         (&LATE, LATE_TEXT),
         (&ANEW, ANEW_TEXT),
         (&OTHERS, OTHERS_TEXT),
+        (&BOTH, BOTH_TEXT),
+        (&MECHANISMS, MECHANISMS_TEXT),
     ];
     for (moves, text) in rows {
         let said = moved(rt.alloc(), moves)?;
