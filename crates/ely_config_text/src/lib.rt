@@ -1,0 +1,12 @@
+//! The configuration that a first line is: its JSON text is read, its tree is judged, and what one member says of another; else the
+//! first fault is told with its path.
+#![tactic(auto)]
+
+mod fault;
+mod place;
+mod reading;
+mod writing;
+
+pub use fault::{TextFault, Wrong};
+pub use reading::read_config;
+pub use writing::push_fault;
