@@ -3,10 +3,12 @@
 #![tactic(auto)]
 
 mod fault;
+mod laws;
 mod place;
 mod reading;
 mod writing;
 
 pub use fault::{TextFault, Wrong};
+pub use laws::the_empty_line_is_no_json;
 pub use reading::read_config;
 pub use writing::push_fault;
