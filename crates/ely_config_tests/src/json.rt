@@ -1,8 +1,8 @@
 //! The typed parts that JSON texts stand for.
 
-use ely_config_json::read_members;
 use ely_base::{NoMemory, Refused};
 use ely_config::{Config, Members};
+use ely_config_json::read_members;
 use serde_json::Value;
 use std::alloc::{AllocError, Global};
 use std::test::Fail;
