@@ -40,7 +40,8 @@ fn read_value(alloc: Global, line: &[u8]) -> Result<Option<Value>, NoMemory>
 
 /// The fault of a tree, with its path.
 fn told(alloc: Global, fault: &TreeFault) -> Result<TextFault, NoMemory>
-    ensures { IfOk result (λ told. told ≡ TextFault.At (path_text fault.now.steps) (wrong_of fault.now.kind)) }
+    ensures { IfOk result (λ told. told
+        ≡ TextFault.At (path_text fault.now.steps) (wrong_of fault.now.kind)) }
 {
     let mut path = Vec::new(alloc);
     push_path(&mut path, fault)?;
@@ -52,7 +53,8 @@ fn told(alloc: Global, fault: &TreeFault) -> Result<TextFault, NoMemory>
 
 /// A fault between members, with its path.
 fn told_between(alloc: Global, constant: bool, fault: ConfigFault) -> Result<TextFault, NoMemory>
-    ensures { IfOk result (λ told. told ≡ TextFault.At (fault_path constant fault) (wrong_between fault)) }
+    ensures { IfOk result (λ told. told
+        ≡ TextFault.At (fault_path constant fault) (wrong_between fault)) }
 {
     let mut path = Vec::new(alloc);
     push_place(&mut path, constant, fault)?;
