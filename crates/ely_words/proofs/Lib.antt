@@ -1,2 +1,0 @@
-mod Getters
-mod Rows
