@@ -8,7 +8,7 @@ use Rattle.ely_io.specs.Reading.{most}
 use Rattle.ely_io.proofs.LineLaws.{lines_of-line, lines_of-last}
 use Rattle.ely_front.specs.declared.ending.Ending.{Ending}
 use Rattle.ely_front.specs.declared.ending.Ending.TheVariants as ending
-use Rattle.ely_front.specs.declared.first_line.ConfigFault.{ConfigFault}
+use Rattle.ely_config_text.specs.declared.fault.TextFault.{TextFault}
 use Rattle.ely_domain.specs.Given.{Given}
 use Rattle.ely_front.specs.Moments.{Moment}
 use Rattle.ely_front.specs.FirstLine.{conf, IsFirstLine}
@@ -49,7 +49,7 @@ all_given bytes gave left took at_end =
     let none : f.0 ≡ [] = subst IsAtEnd f.1 at_end in
     sym (f.2 ∙ (ap (λ xs. gave ++ xs) none ∙ append-nil gave))
 
-given_or_fault : (given : Given) (fault : ConfigFault) (line first : List ℕ) → line ≡ first → conf line ≡ Err fault → conf first ≡ Ok given → ⊥
+given_or_fault : (given : Given) (fault : TextFault) (line first : List ℕ) → line ≡ first → conf line ≡ Err fault → conf first ≡ Ok given → ⊥
 given_or_fault given fault line first same bad good = absurd (cc)
 
 module _ (bytes gave : List ℕ) (before after : Moment) (status : ℕ) (within : IsWithinLimits before.input bytes) (took : Consumes (Some bytes) after.input.left gave) (causes : HasCauses before after status)

@@ -14,16 +14,18 @@ use Rattle.ely_io.specs.Causes.{AppendsPrefix}
 use Rattle.ely_io.specs.Lines.{HasNoLf, lines_of, whole_lines}
 use Rattle.ely_io.specs.Reading.{Reader, new_reader, most, IsGivenAt, GivesLine, Next, Counts}
 use Rattle.ely_io.proofs.LineLaws.{lines_of-line, lines_of-last, whole_lines-line, whole_lines-none}
+use Rattle.ely_config_text.specs.declared.fault.TextFault.{TextFault}
+use Rattle.ely_config_text.specs.declared.fault.TextFault.TheVariants.{NotJson}
 use Rattle.ely_domain.specs.Given.{Given}
+use Rattle.ely_config_text.proofs.Empty.{empty_is_no_json}
 use Rattle.ely_domain.proofs.Extends.{no_history}
 use Rattle.ely_front.specs.declared.replay.Replay.{Replay}
 use Rattle.ely_front.specs.declared.ending.Ending.{Ending}
 use Rattle.ely_front.specs.declared.ending.Ending.TheVariants as ending
-use Rattle.ely_front.specs.declared.first_line.ConfigFault.{ConfigFault}
 use Rattle.ely_front.specs.declared.first_line.FirstFault.{FirstFault}
 use Rattle.ely_front.specs.declared.first_line.FirstFault.TheVariants.{Config, Long}
 use Rattle.ely_front.specs.Moments.{at}
-use Rattle.ely_front.specs.FirstLine.{conf, config_most, or_refused, first_of, first_text, first_ending, IsFirstLine, IsBegun}
+use Rattle.ely_front.specs.FirstLine.{conf, given_or, config_most, or_refused, first_of, first_text, first_ending, IsFirstLine, IsBegun}
 use Rattle.ely_front.specs.Lines.{IsPrinted}
 use Rattle.ely_front.specs.Replay.{IsAfter}
 use Rattle.ely_front.specs.Loop.{IsUnderWay}
@@ -74,11 +76,11 @@ first_given true bytes line r input count none h = record { no_lf = none; given 
 first_given false bytes line r input count none h = record { no_lf = none; given = inl (r.held, h) }
 
 -- what a reading of a configuration gives
-is_config : (r : Result Given ConfigFault) (given : Given) → or_refused r ≡ Ok given → r ≡ Ok given
+is_config : (r : Result Given TextFault) (given : Given) → or_refused r ≡ Ok given → r ≡ Ok given
 is_config (Ok g) given h = ap Ok cc
 is_config (Err f) given h = absurd (cc)
 
-is_fault : (r : Result Given ConfigFault) (fault : FirstFault) → or_refused r ≡ Err fault → (f : ConfigFault) × (r ≡ Err f) × (fault ≡ Config f)
+is_fault : (r : Result Given TextFault) (fault : FirstFault) → or_refused r ≡ Err fault → (f : TextFault) × (r ≡ Err f) × (fault ≡ Config f)
 is_fault (Ok g) fault h = absurd (cc)
 is_fault (Err f) fault h = (f, refl, cc)
 
@@ -100,6 +102,16 @@ not_done : (fault : FirstFault) → first_ending fault ≡ ending.Done → ⊥
 not_done (Config fault) h = absurd (cc)
 not_done Long h = absurd (cc)
 
+-- the first line was read, and nothing was written for want of memory
+pub unwritten_first : (before after : Input) (out : Output) (steps : ℕ) (begun r : Reader) (line : Line) → begun ≡ new_reader → Next config_most begun r before after (Ok line) → Counts r → EndsAs (at before out steps) (at after out steps) ending.NoMemory
+unwritten_first before after out steps begun r line is n counts =
+    let m : Next config_most new_reader r before after (Ok line) = subst (λ (s : Reader). Next config_most s r before after (Ok line)) is n in (
+      m.0,
+      m.1,
+      omega (arith, m.2, counts.0),
+      inl (Appends-nil _),
+    )
+
 pub refused_first : (before after : Input) (out out' : Output) (steps : ℕ) (begun r : Reader) (line : Line) (judged : Result Given FirstFault) (fault : FirstFault) (result : Ending) → begun ≡ new_reader → Next config_most begun r before after (Ok line) → Counts r → judged ≡ first_of line → judged ≡ Err fault → Closes out out' (first_text fault) (first_ending fault) result
     → EndsAs (at before out steps) (at after out' steps) result
 refused_first before after out out' steps begun r line judged fault result is n counts judging refused closes =
@@ -110,9 +122,16 @@ refused_first before after out out' steps begun r line judged fault result is n 
       closed m.0 (at before out steps) (at after out' steps) (first_ending fault) result (first_text fault) (not_done fault) (refused_says m.0 before after r line fault (omega (arith, m.2)) m.3 (sym judging ∙ refused)) closes,
     )
 
+-- the empty line is no configuration
+empty_fault : conf [] ≡ Err NotJson
+unfolding conf
+empty_fault = ap given_or empty_is_no_json
+
 -- the first line is the configuration
 begun_by : (gave : List ℕ) (before after : Input) (r : Reader) (line : Line) (given : Given) → Consumes before.left after.left gave → r.taken ≡ length gave → Counts r → GivesLine config_most new_reader r gave before after (Ok line) → first_of line ≡ Ok given → IsBegun before after r given
-begun_by gave before after r End given took count counts h is = absurd (cc)
+begun_by gave before after r End given took count counts h is =
+    let read : conf [] ≡ Ok given = is_config (conf []) given is in
+    absurd (cc (empty_fault))
 begun_by gave before after r (Text line) given took count counts h is = record {
   gave = gave;
   first = line;

@@ -9,14 +9,15 @@ use Rattle.ely_io.specs.Streams.{Input, Output}
 use Rattle.ely_io.specs.Causes.{AppendsPrefix}
 use Rattle.ely_io.specs.Lines.{lines_of, whole_lines}
 use Rattle.ely_io.specs.Reading.{most}
+use Rattle.ely_config_text.specs.declared.fault.TextFault.{TextFault}
+use Rattle.ely_config_text.specs.Texts.{fault_text}
 use Rattle.ely_domain.specs.Given.{Given}
 use Rattle.ely_domain.specs.Headline.{IsHistoryOf}
 use Rattle.ely_domain.specs.Replays.{Told}
 use Rattle.ely_front.specs.declared.ending.Ending.{Ending}
 use Rattle.ely_front.specs.declared.ending.Ending.TheVariants.{Done, NoMemory, Words, Config, Read, Write, ConfigLimit, BytesLimit}
-use Rattle.ely_front.specs.declared.first_line.ConfigFault.{ConfigFault}
 use Rattle.ely_front.specs.Moments.{Moment}
-use Rattle.ely_front.specs.FirstLine.{conf, Configures, config_text, config_most, config_limit_text, IsFirstLine}
+use Rattle.ely_front.specs.FirstLine.{conf, Configures, config_most, config_limit_text, IsFirstLine}
 use Rattle.ely_front.specs.Lines.{script_of, text_of, cost_of, IsPrinted}
 
 -- the exit status of each ending
@@ -60,8 +61,8 @@ Says gave input Done said = IsAtEnd input.left × (length gave < most) × IsPrin
 Says gave input Read said = (length gave < most) × IsPrinted (whole_lines gave) said
 Says gave input BytesLimit said = (length gave ≡ most)
     × (printed : List ℕ) × IsPrinted (whole_lines gave) printed × (said ≡ printed ++ bytes_limit_text)
-Says gave input Config said = (first : List ℕ) × (fault : ConfigFault) × IsFirstLine gave input first
-    × (length first ≤ config_most) × (conf first ≡ Err fault) × (said ≡ config_text fault)
+Says gave input Config said = (first : List ℕ) × (fault : TextFault) × IsFirstLine gave input first
+    × (length first ≤ config_most) × (conf first ≡ Err fault) × (said ≡ fault_text fault)
 Says gave input ConfigLimit said = (first : List ℕ) × IsFirstLine gave input first
     × (config_most < length first) × (said ≡ config_limit_text)
 Says gave input _ said = ⊥
@@ -94,6 +95,10 @@ EndsAs before after ending = (gave : List ℕ) × Consumes before.input.left aft
 abbrev pub Closes : Output → Output → List ℕ → Ending → Ending → Type 0
 Closes before after said ending result = ((result ≡ ending) × Appends before.held after.held said)
     ⊎ ((result ≡ Write) × AppendsPrefix before.held after.held said)
+
+-- the same, or memory ran out before anything was written
+abbrev pub Refuses : Output → Output → List ℕ → Ending → Ending → Type 0
+Refuses before after said ending result = ((result ≡ NoMemory) × (after ≡ before)) ⊎ Closes before after said ending result
 
 -- how a mode ends where the reader of lines refused
 abbrev pub stop_ending : Refused LineFault → Ending

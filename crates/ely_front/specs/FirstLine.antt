@@ -1,6 +1,5 @@
 -- The first line of a script: its configuration, and why another line is refused.
-use Rattle.std.specs.Prelude.{ℕ, ◌≡◌, ◌⊎◌, ◌<◌, ◌≤◌, if◌then◌else◌, List, [], ◌∷◌, ◌++◌, length, codes, Result, Ok, Err, None}
-use Rattle.std.specs.Str.{bytes_eq}
+use Rattle.std.specs.Prelude.{ℕ, ◌≡◌, ◌⊎◌, ◌<◌, ◌≤◌, List, [], ◌∷◌, ◌++◌, length, codes, Result, Ok, Err, None}
 use Rattle.std.specs.Io.KnownBytes.{Consumes, IsAtEnd}
 use Rattle.ely_io.specs.declared.line.Line.{Line}
 use Rattle.ely_io.specs.declared.line.Line.TheVariants.{End, Text, TooLong}
@@ -8,9 +7,9 @@ use Rattle.ely_io.specs.Streams.{Input}
 use Rattle.ely_io.specs.Lines.{HasNoLf}
 use Rattle.ely_io.specs.Reading.{Reader, most, IsGiven, Counts}
 use Rattle.ely_config.specs.Configs as configs
+use Rattle.ely_config_text.specs.declared.fault.TextFault.{TextFault}
+use Rattle.ely_config_text.specs.Texts.{config_in, fault_text}
 use Rattle.ely_domain.specs.Given.{Given}
-use Rattle.ely_front.specs.declared.first_line.ConfigFault.{ConfigFault}
-use Rattle.ely_front.specs.declared.first_line.ConfigFault.TheVariants.{NotBuilt}
 use Rattle.ely_front.specs.declared.first_line.FirstFault.{FirstFault}
 use Rattle.ely_front.specs.declared.first_line.FirstFault.TheVariants.{Config, Long}
 use Rattle.ely_front.specs.declared.ending.Ending.{Ending}
@@ -20,13 +19,14 @@ use Rattle.ely_front.specs.declared.ending.Ending.TheVariants as endings
 abbrev pub given_by : configs.Config → Given
 given_by config = record { config = config; limit = 131072 }
 
--- what the first line gives: there is one that is a configuration
-abbrev pub conf : List ℕ → Result Given ConfigFault
-conf line = if bytes_eq line (codes "{}") then Ok (given_by configs.plain_config) else Err NotBuilt
+-- what a reading of a configuration gives
+abbrev pub given_or : Result configs.Config TextFault → Result Given TextFault
+given_or (Ok config) = Ok (given_by config)
+given_or (Err fault) = Err fault
 
--- the line that is written where the first line is no configuration
-abbrev pub config_text : ConfigFault → List ℕ
-config_text NotBuilt = codes "config / not-built\n"
+-- what the first line gives: the configuration that its JSON text is
+unfoldable pub conf : List ℕ → Result Given TextFault
+conf line = given_or (config_in line)
 
 -- the most bytes of the first line
 abbrev pub config_most : ℕ
@@ -47,7 +47,7 @@ pub record IsFirstLine (gave : List ℕ) (input : Input) (first : List ℕ) : Ty
       ⊎ ((gave ≡ first) × IsAtEnd input.left × (length gave < most))
 
 -- a line that is no configuration is refused as the first
-abbrev pub or_refused : Result Given ConfigFault → Result Given FirstFault
+abbrev pub or_refused : Result Given TextFault → Result Given FirstFault
 or_refused (Ok given) = Ok given
 or_refused (Err fault) = Err (Config fault)
 
@@ -59,7 +59,7 @@ first_of TooLong = Err Long
 
 -- the line that is written where the first line is refused
 abbrev pub first_text : FirstFault → List ℕ
-first_text (Config fault) = config_text fault
+first_text (Config fault) = fault_text fault
 first_text Long = config_limit_text
 
 -- how the mode ends then

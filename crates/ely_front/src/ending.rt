@@ -9,8 +9,6 @@ use ely_io::{LineFault, Sink, write_all};
 
 pub(crate) const WORDS_TEXT: [u8; 6] = *b"words\n";
 
-pub(crate) const CONFIG_TEXT: [u8; 19] = *b"config / not-built\n";
-
 pub(crate) const CONFIG_LIMIT_TEXT: [u8; 21] = *b"limit config 1048576\n";
 
 /// How a mode ends.

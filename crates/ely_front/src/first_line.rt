@@ -5,11 +5,13 @@ ghost use Rattle.std.specs.Str.{bytes_eq};
 ghost use Rattle.ely_io.specs.Causes.{Rose};
 ghost use Rattle.ely_front.specs.Moments.{at};
 ghost use Rattle.ely_front.specs.FirstLine.{given_by, conf, first_of, first_text, first_ending, IsBegun};
-ghost use Rattle.ely_front.specs.Ending.{Closes, EndsAs};
+ghost use Rattle.ely_config_text.specs.Texts.{fault_text};
+ghost use Rattle.ely_front.specs.Ending.{EndsAs, Refuses};
 
-use crate::ending::{CONFIG_LIMIT_TEXT, CONFIG_TEXT, Ending, close, stop};
-use ely_base::NoMemory;
+use crate::ending::{CONFIG_LIMIT_TEXT, Ending, close, stop};
+use ely_base::{NoMemory, Refused};
 use ely_config::Config;
+use ely_config_text::{TextFault, push_fault, read_config};
 use ely_domain::JOURNAL_LIMIT;
 use ely_io::{Line, LineReader, Sink, Source};
 use std::alloc::Global;
@@ -43,18 +45,11 @@ impl Model for Setup {
         × (length (loadings s.config.realms) ≤ s.journal_limit) };
 }
 
-/// Why a line is no configuration.
-#[derive(Clone, Copy)]
-pub(crate) enum ConfigFault {
-    /// It has something that the program can't do yet.
-    NotBuilt,
-}
-
 /// Why a first line is refused.
-#[derive(Clone, Copy)]
+#[derive(Drop)]
 pub(crate) enum FirstFault {
     /// It is no configuration.
-    Config(ConfigFault),
+    Config(TextFault),
     /// It has too many bytes.
     Long,
 }
@@ -80,13 +75,14 @@ impl Setup {
 }
 
 /// Reads the configuration, or says why the line is none.
-fn read_config(alloc: Global, line: &[u8]) -> Result<Result<Setup, ConfigFault>, NoMemory>
+fn read_setup(alloc: Global, line: &[u8]) -> Result<Result<Setup, TextFault>, NoMemory>
     ensures { IfOk result (λ read. read ≡ conf line.now) }
 {
-    if line != b"{}".as_slice() {
-        return Ok(Err(ConfigFault::NotBuilt));
+    match read_config(alloc, line) {
+        Ok(config) => Ok(Ok(Setup::of(config))),
+        Err(Refused::Fault(fault)) => Ok(Err(fault)),
+        Err(Refused::NoMemory) => Err(NoMemory),
     }
-    Ok(Ok(Setup::of(Config::plain(alloc)?)))
 }
 
 /// What a line is as the first one. An input without a line has the empty one.
@@ -95,8 +91,8 @@ fn judge_first(alloc: Global, line: Line) -> Result<Result<Setup, FirstFault>, N
 {
     let read = match line {
         Line::TooLong => return Ok(Err(FirstFault::Long)),
-        Line::End => read_config(alloc, b"")?,
-        Line::Text(text) => read_config(alloc, text.bytes())?,
+        Line::End => read_setup(alloc, b"")?,
+        Line::Text(text) => read_setup(alloc, text.bytes())?,
     };
     match read {
         Ok(setup) => Ok(Ok(setup)),
@@ -104,15 +100,28 @@ fn judge_first(alloc: Global, line: Line) -> Result<Result<Setup, FirstFault>, N
     }
 }
 
+/// Writes why the first line is no configuration.
+fn refuse_config<K: Sink>(alloc: Global, sink: &mut K, fault: &TextFault) -> Ending
+    ensures ends { Refuses (K.seen sink.old) (K.seen sink.new) (fault_text fault.now) Ending.Config result }
+    ensures write { result ≡ Ending.Write
+        → Rose (K.seen sink.old).faults (K.seen sink.new).faults }
+{
+    let mut text = Vec::new(alloc);
+    match push_fault(&mut text, fault) {
+        Ok(()) => close(sink, &text, Ending::Config),
+        Err(NoMemory) => Ending::NoMemory,
+    }
+}
+
 /// Writes why the first line is refused.
-fn refuse_first<K: Sink>(sink: &mut K, fault: FirstFault) -> Ending
-    ensures ends { Closes
-        (K.seen sink.old) (K.seen sink.new) (first_text fault) (first_ending fault) result }
+fn refuse_first<K: Sink>(alloc: Global, sink: &mut K, fault: &FirstFault) -> Ending
+    ensures ends { Refuses (K.seen sink.old) (K.seen sink.new)
+        (first_text fault.now) (first_ending fault.now) result }
     ensures write { result ≡ Ending.Write
         → Rose (K.seen sink.old).faults (K.seen sink.new).faults }
 {
     match fault {
-        FirstFault::Config(ConfigFault::NotBuilt) => close(sink, &CONFIG_TEXT, Ending::Config),
+        FirstFault::Config(fault) => refuse_config(alloc, sink, fault),
         FirstFault::Long => close(sink, &CONFIG_LIMIT_TEXT, Ending::ConfigLimit),
     }
 }
@@ -146,7 +155,7 @@ pub(crate) fn read_first_line<S: Source, K: Sink>(
     };
     match judge_first(alloc, line) {
         Ok(Ok(setup)) => Ok(Begun { setup, reader }),
-        Ok(Err(fault)) => Err(refuse_first(sink, fault)),
+        Ok(Err(fault)) => Err(refuse_first(alloc, sink, &fault)),
         Err(_) => Err(Ending::NoMemory),
     }
 }

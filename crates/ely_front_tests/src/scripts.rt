@@ -379,10 +379,10 @@ fn another_first_line_is_refused(rt: HostRuntime) -> Result<(), Fail> {
     let most = vec![in rt.alloc(); b'x'; 1048576]?;
     let more = vec![in rt.alloc(); b'x'; 1048577]?;
     let rows: [Row; 5] = [
-        (b"", 3, b"config / not-built\n"),
-        (b"\n{}\n", 3, b"config / not-built\n"),
-        (b"{\"x\":1}\n", 3, b"config / not-built\n"),
-        (&most, 3, b"config / not-built\n"),
+        (b"", 3, b"config / not-json\n"),
+        (b"\n{}\n", 3, b"config / not-json\n"),
+        (b"{\"x\":1}\n", 3, b"config /x unknown\n"),
+        (&most, 3, b"config / not-json\n"),
         (&more, 6, b"limit config 1048576\n"),
     ];
     assert_eq!(rt; first_wrong(&rt, &rows)?, None);

@@ -1,0 +1,3 @@
+pub mod KnownRealms
+pub mod Levels
+pub mod Presence

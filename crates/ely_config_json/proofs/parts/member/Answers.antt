@@ -1,0 +1,11 @@
+-- A look-up in the map is one among the members.
+use Rattle.std.proofs.Common.{◌∙◌, ap, Option, option_map}
+use Rattle.serde_json.specs.View.{view}
+use Rattle.serde_json.specs.declared.value.Value.{Value}
+use Rattle.serde_json.proofs.Views.{view-lookup, view_of_ref}
+use Rattle.ely_config_json.proofs.parts.member.Goals as goal
+
+pub returns : goal.returns
+returns c = view_of_ref c.get.result
+    ∙ ap (λ (o : Option Value). option_map view o) c.get.ensures.value
+    ∙ view-lookup c.args.name.now c.args.object.now.entries

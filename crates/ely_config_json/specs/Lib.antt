@@ -1,0 +1,10 @@
+pub mod Members
+pub mod Names
+pub mod Params
+pub mod Parts
+pub mod Permissions
+pub mod Pipelines
+pub mod RealmMappers
+pub mod Realms
+pub mod RoleMappers
+pub mod Rules
