@@ -1,1 +1,11 @@
 pub mod Empty
+pub mod WholeParts
+pub mod WholeNames
+pub mod WholeObjects
+pub mod WholeRules
+pub mod WholeRealmMappers
+pub mod WholeRoles
+pub mod WholePermissions
+pub mod WholeRealms
+pub mod WholeParams
+pub mod Whole

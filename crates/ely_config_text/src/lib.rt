@@ -9,6 +9,6 @@ mod reading;
 mod writing;
 
 pub use fault::{TextFault, Wrong};
-pub use laws::the_empty_line_is_no_json;
+pub use laws::{faultless_trees_have_members, the_empty_line_is_no_json};
 pub use reading::read_config;
 pub use writing::push_fault;

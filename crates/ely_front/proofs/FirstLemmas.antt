@@ -1,5 +1,5 @@
 -- The first line of a script, and what is behind it.
-use Rattle.std.proofs.Common.{◌≡◌, ℕ, ◌≤◌, Bool, true, false, List, [], ◌∷◌, ◌++◌, length, Result, Ok, Err, refl, sym, ap, subst, ◌∙◌, inl, inr, ⊎_elim, arith, append_assoc}
+use Rattle.std.proofs.Common.{◌≡◌, ℕ, ◌⊎◌, ◌<◌, ◌≤◌, Bool, true, false, List, [], ◌∷◌, ◌++◌, length, Result, Ok, Err, refl, sym, ap, subst, ◌∙◌, inl, inr, ⊎_elim, arith, append_assoc}
 use Rattle.std.proofs.KnownBytes.{Appends-nil}
 use Rattle.std.proofs.Math.Seq.{take-nil}
 use Rattle.std.specs.Io.KnownBytes.{Consumes, Appends}
@@ -16,6 +16,8 @@ use Rattle.ely_io.specs.Reading.{Reader, new_reader, most, IsGivenAt, GivesLine,
 use Rattle.ely_io.proofs.LineLaws.{lines_of-line, lines_of-last, whole_lines-line, whole_lines-none}
 use Rattle.ely_config_text.specs.declared.fault.TextFault.{TextFault}
 use Rattle.ely_config_text.specs.declared.fault.TextFault.TheVariants.{NotJson}
+use Rattle.ely_words.specs.declared.words.Mode.{Mode}
+use Rattle.ely_words.specs.declared.words.Mode.TheVariants as modes
 use Rattle.ely_domain.specs.Given.{Given}
 use Rattle.ely_config_text.proofs.Empty.{empty_is_no_json}
 use Rattle.ely_domain.proofs.Extends.{no_history}
@@ -26,16 +28,18 @@ use Rattle.ely_front.specs.declared.first_line.FirstFault.{FirstFault}
 use Rattle.ely_front.specs.declared.first_line.FirstFault.TheVariants.{Config, Long}
 use Rattle.ely_front.specs.Moments.{at}
 use Rattle.ely_front.specs.FirstLine.{conf, given_or, config_most, or_refused, first_of, first_text, first_ending, IsFirstLine, IsBegun}
-use Rattle.ely_front.specs.Lines.{IsPrinted}
+use Rattle.ely_front.specs.declared.check.Check.{Check}
+use Rattle.ely_front.specs.Check.{total_text, HasCounted}
+use Rattle.ely_front.specs.Printed.{IsPrinted}
 use Rattle.ely_front.specs.Replay.{IsAfter}
-use Rattle.ely_front.specs.Loop.{IsUnderWay}
+use Rattle.ely_front.specs.Loop.{HasRead, IsUnderWay, IsChecking}
 use Rattle.ely_front.specs.Ending.{Ends, EndsAs, Says, Closes, stop_ending, stop_text, bytes_limit_text}
-use Rattle.ely_front.proofs.EndingLemmas.{closed}
+use Rattle.ely_front.proofs.EndingLemmas.{closed, closed_checked}
 use Rattle.ely_front.proofs.LoopLemmas.{given_at}
 
 -- without an LF nothing is printed
-printed_none : (bytes : List ℕ) → HasNoLf bytes → IsPrinted (whole_lines bytes) []
-printed_none bytes none = subst (λ ls. IsPrinted ls []) (sym (whole_lines-none bytes none)) refl
+printed_none : (mode : Mode) (bytes : List ℕ) → HasNoLf bytes → IsPrinted mode (whole_lines bytes) []
+printed_none mode bytes none = subst (λ ls. IsPrinted mode ls []) (sym (whole_lines-none bytes none)) refl
 
 -- nothing is to be written, whether the sink failed or not
 nothing : (a b : Output) (e end : Ending) → Closes a b [] e end → Appends a.held b.held []
@@ -45,30 +49,30 @@ nothing a b e end closes = ⊎_elim
     closes
 
 -- the reader refused the first line
-stopped_at : (before after : Input) (out out' : Output) (steps : ℕ) (r : Reader) (refused : Refused LineFault) (end : Ending) → Next config_most new_reader r before after (Err refused) → Counts r → Closes out out' (stop_text refused) (stop_ending refused) end → EndsAs (at before out steps) (at after out' steps) end
-stopped_at before after out out' steps r OutOfMemory end n counts closes = (n.0, n.1, omega (arith, n.2, counts.0), short)
+stopped_at : (mode : Mode) (before after : Input) (out out' : Output) (steps : ℕ) (r : Reader) (refused : Refused LineFault) (end : Ending) → Next config_most new_reader r before after (Err refused) → Counts r → Closes out out' (stop_text refused) (stop_ending refused) end → EndsAs mode (at before out steps) (at after out' steps) end
+stopped_at mode before after out out' steps r OutOfMemory end n counts closes = (n.0, n.1, omega (arith, n.2, counts.0), short)
   where
-    short : Ends n.0 (at before out steps) (at after out' steps) end
+    short : Ends mode n.0 (at before out steps) (at after out' steps) end
     short = ⊎_elim
-        (λ (h : (end ≡ ending.NoMemory) × Appends out.held out'.held []). subst (Ends n.0 (at before out steps) (at after out' steps)) (sym h.0) (inl (nothing out out' ending.NoMemory end closes)))
-        (λ (h : (end ≡ ending.Write) × AppendsPrefix out.held out'.held []). subst (Ends n.0 (at before out steps) (at after out' steps)) (sym h.0) (inl (nothing out out' ending.NoMemory end closes)))
+        (λ (h : (end ≡ ending.NoMemory) × Appends out.held out'.held []). subst (Ends mode n.0 (at before out steps) (at after out' steps)) (sym h.0) (inl (nothing out out' ending.NoMemory end closes)))
+        (λ (h : (end ≡ ending.Write) × AppendsPrefix out.held out'.held []). subst (Ends mode n.0 (at before out steps) (at after out' steps)) (sym h.0) (inl (nothing out out' ending.NoMemory end closes)))
         closes
-stopped_at before after out out' steps r (Fault ReadFault) end n counts closes = (
+stopped_at mode before after out out' steps r (Fault ReadFault) end n counts closes = (
   n.0,
   n.1,
   omega (arith, n.2, counts.0),
-  closed n.0 (at before out steps) (at after out' steps) ending.Read end [] (λ is. absurd (cc)) (omega (arith, n.2, n.3.4), printed_none n.0 n.3.0) closes,
+  closed mode n.0 (at before out steps) (at after out' steps) ending.Read end [] (λ is. absurd (cc)) (omega (arith, n.2, n.3.4), printed_none mode n.0 n.3.0) closes,
 )
-stopped_at before after out out' steps r (Fault SpentFault) end n counts closes = (
+stopped_at mode before after out out' steps r (Fault SpentFault) end n counts closes = (
   n.0,
   n.1,
   omega (arith, n.2, counts.0),
-  closed n.0 (at before out steps) (at after out' steps) ending.BytesLimit end bytes_limit_text (λ is. absurd (cc)) (omega (arith, n.2, n.3.1), [], printed_none n.0 n.3.0, refl) closes,
+  closed mode n.0 (at before out steps) (at after out' steps) ending.BytesLimit end bytes_limit_text (λ is. absurd (cc)) (omega (arith, n.2, n.3.1), [], printed_none mode n.0 n.3.0, refl) closes,
 )
 
-pub stopped_first : (before after : Input) (out out' : Output) (steps : ℕ) (begun r : Reader) (refused : Refused LineFault) (end : Ending) → begun ≡ new_reader → Next config_most begun r before after (Err refused) → Counts r → Closes out out' (stop_text refused) (stop_ending refused) end → EndsAs (at before out steps) (at after out' steps) end
-stopped_first before after out out' steps begun r refused end is n counts closes =
-    stopped_at before after out out' steps r refused end (subst (λ (s : Reader). Next config_most s r before after (Err refused)) is n) counts closes
+pub stopped_first : (mode : Mode) (before after : Input) (out out' : Output) (steps : ℕ) (begun r : Reader) (refused : Refused LineFault) (end : Ending) → begun ≡ new_reader → Next config_most begun r before after (Err refused) → Counts r → Closes out out' (stop_text refused) (stop_ending refused) end → EndsAs mode (at before out steps) (at after out' steps) end
+stopped_first mode before after out out' steps begun r refused end is n counts closes =
+    stopped_at mode before after out out' steps r refused end (subst (λ (s : Reader). Next config_most s r before after (Err refused)) is n) counts closes
 
 -- a line that was given is the first line
 first_given : (b : Bool) (bytes line : List ℕ) (r : Reader) (input : Input) → r.taken ≡ length bytes → HasNoLf line → IsGivenAt b bytes line r input.left → IsFirstLine bytes input line
@@ -85,17 +89,17 @@ is_fault (Ok g) fault h = absurd (cc)
 is_fault (Err f) fault h = (f, refl, cc)
 
 -- the first line is no configuration
-no_config : (gave first : List ℕ) (after : Input) (fault : FirstFault) → IsFirstLine gave after first → length first ≤ config_most → or_refused (conf first) ≡ Err fault → Says gave after (first_ending fault) (first_text fault)
-no_config gave first after fault is short h =
+no_config : (mode : Mode) (gave first : List ℕ) (after : Input) (fault : FirstFault) → IsFirstLine gave after first → length first ≤ config_most → or_refused (conf first) ≡ Err fault → Says mode gave after (first_ending fault) (first_text fault)
+no_config mode gave first after fault is short h =
     let f = is_fault (conf first) fault h in
-    subst (λ k. Says gave after (first_ending k) (first_text k)) (sym f.2) (first, f.0, is, short, f.1, refl)
+    subst (λ k. Says mode gave after (first_ending k) (first_text k)) (sym f.2) (first, f.0, is, short, f.1, refl)
 
-refused_says : (gave : List ℕ) (before after : Input) (r : Reader) (line : Line) (fault : FirstFault) → r.taken ≡ length gave → GivesLine config_most new_reader r gave before after (Ok line) → first_of line ≡ Err fault → Says gave after (first_ending fault) (first_text fault)
-refused_says gave before after r End fault count h is = no_config gave [] after fault (record { no_lf = tt; given = inr (h.0, h.2, omega (arith, count, h.3)) }) (omega arith) is
-refused_says gave before after r (Text line) fault count h is = no_config gave line after fault (first_given r.ended gave line r after count h.0 h.2) h.1 is
-refused_says gave before after r TooLong fault count h is =
+refused_says : (mode : Mode) (gave : List ℕ) (before after : Input) (r : Reader) (line : Line) (fault : FirstFault) → r.taken ≡ length gave → GivesLine config_most new_reader r gave before after (Ok line) → first_of line ≡ Err fault → Says mode gave after (first_ending fault) (first_text fault)
+refused_says mode gave before after r End fault count h is = no_config mode gave [] after fault (record { no_lf = tt; given = inr (h.0, h.2, omega (arith, count, h.3)) }) (omega arith) is
+refused_says mode gave before after r (Text line) fault count h is = no_config mode gave line after fault (first_given r.ended gave line r after count h.0 h.2) h.1 is
+refused_says mode gave before after r TooLong fault count h is =
     let long : fault ≡ Long = cc in
-    subst (λ k. Says gave after (first_ending k) (first_text k)) (sym long) (h.0, first_given r.ended gave h.0 r after count h.1 h.3, h.2, refl)
+    subst (λ k. Says mode gave after (first_ending k) (first_text k)) (sym long) (h.0, first_given r.ended gave h.0 r after count h.1 h.3, h.2, refl)
 
 -- the first line that is refused doesn't end a mode as done
 not_done : (fault : FirstFault) → first_ending fault ≡ ending.Done → ⊥
@@ -103,8 +107,8 @@ not_done (Config fault) h = absurd (cc)
 not_done Long h = absurd (cc)
 
 -- the first line was read, and nothing was written for want of memory
-pub unwritten_first : (before after : Input) (out : Output) (steps : ℕ) (begun r : Reader) (line : Line) → begun ≡ new_reader → Next config_most begun r before after (Ok line) → Counts r → EndsAs (at before out steps) (at after out steps) ending.NoMemory
-unwritten_first before after out steps begun r line is n counts =
+pub unwritten_first : (mode : Mode) (before after : Input) (out : Output) (steps : ℕ) (begun r : Reader) (line : Line) → begun ≡ new_reader → Next config_most begun r before after (Ok line) → Counts r → EndsAs mode (at before out steps) (at after out steps) ending.NoMemory
+unwritten_first mode before after out steps begun r line is n counts =
     let m : Next config_most new_reader r before after (Ok line) = subst (λ (s : Reader). Next config_most s r before after (Ok line)) is n in (
       m.0,
       m.1,
@@ -112,14 +116,14 @@ unwritten_first before after out steps begun r line is n counts =
       inl (Appends-nil _),
     )
 
-pub refused_first : (before after : Input) (out out' : Output) (steps : ℕ) (begun r : Reader) (line : Line) (judged : Result Given FirstFault) (fault : FirstFault) (result : Ending) → begun ≡ new_reader → Next config_most begun r before after (Ok line) → Counts r → judged ≡ first_of line → judged ≡ Err fault → Closes out out' (first_text fault) (first_ending fault) result
-    → EndsAs (at before out steps) (at after out' steps) result
-refused_first before after out out' steps begun r line judged fault result is n counts judging refused closes =
+pub refused_first : (mode : Mode) (before after : Input) (out out' : Output) (steps : ℕ) (begun r : Reader) (line : Line) (judged : Result Given FirstFault) (fault : FirstFault) (result : Ending) → begun ≡ new_reader → Next config_most begun r before after (Ok line) → Counts r → judged ≡ first_of line → judged ≡ Err fault → Closes out out' (first_text fault) (first_ending fault) result
+    → EndsAs mode (at before out steps) (at after out' steps) result
+refused_first mode before after out out' steps begun r line judged fault result is n counts judging refused closes =
     let m : Next config_most new_reader r before after (Ok line) = subst (λ (s : Reader). Next config_most s r before after (Ok line)) is n in (
       m.0,
       m.1,
       omega (arith, m.2, counts.0),
-      closed m.0 (at before out steps) (at after out' steps) (first_ending fault) result (first_text fault) (not_done fault) (refused_says m.0 before after r line fault (omega (arith, m.2)) m.3 (sym judging ∙ refused)) closes,
+      closed mode m.0 (at before out steps) (at after out' steps) (first_ending fault) result (first_text fault) (not_done fault) (refused_says mode m.0 before after r line fault (omega (arith, m.2)) m.3 (sym judging ∙ refused)) closes,
     )
 
 -- the empty line is no configuration
@@ -158,7 +162,7 @@ module _ (before after : Input) (out output : Output) (steps : ℕ) (reader : Re
   few = omega (arith, b.count, b.counts.0)
 
   -- there is nothing behind the configuration
-  pub nothing_behind : reader.ended ≡ true → EndsAs (at before out steps) (at after output steps) ending.Done
+  pub nothing_behind : reader.ended ≡ true → EndsAs modes.Replay (at before out steps) (at after output steps) ending.Done
   nothing_behind ended =
       let g = given_at true b.gave b.first reader after.left ended b.is_given in (
         b.gave,
@@ -179,32 +183,62 @@ module _ (before after : Input) (out output : Output) (steps : ℕ) (reader : Re
         },
       )
 
-  -- memory ran out
-  pub unmade : EndsAs (at before out steps) (at after output steps) ending.NoMemory
-  unmade = (b.gave, b.took, few, inl unwritten)
+  -- a check of nothing behind the configuration writes its total
+  pub nothing_checked : (closing : Output) (end : Ending) → reader.ended ≡ true
+      → Closes output closing ([] ++ total_text 0 0) ending.Done end ⊎ Closes output closing ([] ++ []) ending.NoMemory end
+      → EndsAs modes.Check (at before out steps) (at after closing steps) end
+  nothing_checked closing end ended closes =
+      let g = given_at true b.gave b.first reader after.left ended b.is_given in
+      let below : length b.gave < most = omega (arith, b.count, g.4) in
+      let is_read : lines_of b.gave ≡ b.first ∷ [] = ap lines_of g.0 ∙ lines_of-last b.first b.no_lf g.2 in (
+        b.gave,
+        b.took,
+        few,
+        closed_checked b.gave (at before out steps) (at after closing steps) end given b.first [] g.3 below is_read b.configures refl
+            (subst (λ (o : Output). Closes o closing (total_text 0 0) ending.Done end ⊎ Closes o closing [] ending.NoMemory end) same closes),
+      )
 
-  -- a replay of the lines behind it begins
-  pub under_way : (replay : Replay) → reader.ended ≡ false → IsAfter given replay [] [] → IsUnderWay (at before out steps) (at after output steps) reader replay []
-  under_way replay open_still is_after =
+  -- memory ran out
+  pub unmade : (mode : Mode) → EndsAs mode (at before out steps) (at after output steps) ending.NoMemory
+  unmade mode = (b.gave, b.took, few, inl unwritten)
+
+  -- the lines behind it are read on
+  begun : reader.ended ≡ false → HasRead (at before out steps) (at after output steps) reader given [] [] []
+  begun open_still =
       let g = given_at false b.gave b.first reader after.left open_still b.is_given in
       let bytes : (more : List ℕ) → b.gave ++ more ≡ b.first ++ 10 ∷ (reader.held ++ more) = λ more. ap (λ xs. xs ++ more) g ∙ append_assoc b.first (10 ∷ reader.held) more in
       record {
         gave = b.gave;
-        given = given;
         first = b.first;
-        lines = [];
-        history = [];
         took = b.took;
         count = b.count;
         all = λ more. ap lines_of (bytes more) ∙ lines_of-line b.first (reader.held ++ more) b.no_lf;
         whole = λ more. ap whole_lines (bytes more) ∙ whole_lines-line b.first (reader.held ++ more) b.no_lf;
         configures = b.configures;
-        is_after = is_after;
         written = [];
         is_written = unwritten;
         text_is = refl;
-        is_paid = omega arith;
         short = omega arith;
         mark = b.mark;
         counts = b.counts;
       }
+
+  -- a replay of the lines behind it begins
+  pub under_way : (replay : Replay) → reader.ended ≡ false → IsAfter given replay [] [] → IsUnderWay (at before out steps) (at after output steps) reader replay []
+  under_way replay open_still is_after = record {
+    given = given;
+    lines = [];
+    history = [];
+    has_read = begun open_still;
+    is_after = is_after;
+    is_paid = omega arith;
+  }
+
+  -- a check of the lines behind it begins
+  pub checking : (check : Check) → reader.ended ≡ false → HasCounted check [] → IsChecking (at before out steps) (at after output steps) reader check []
+  checking check open_still counted = record {
+    given = given;
+    lines = [];
+    has_read = begun open_still;
+    has_counted = counted;
+  }

@@ -1,29 +1,21 @@
 -- The whole program: its words, and what it reads, writes and answers.
-use Rattle.std.specs.Prelude.{ℕ, ◌≡◌, ◌⊎◌, ◌<◌, ◌==◌, ◌&&◌, Bool, false, List, ◌∷◌, length, slice_get, codes, Option, Some, None}
-use Rattle.std.specs.Str.{bytes_eq}
+use Rattle.std.specs.Prelude.{ℕ, ◌≡◌, ◌⊎◌, ◌<◌, List, [], ◌∷◌, length, Some}
 use Rattle.std.specs.Io.KnownBytes.{Appends}
 use Rattle.ely_io.specs.Streams.{Input}
 use Rattle.ely_io.specs.Causes.{Rose, AppendsPrefix}
 use Rattle.ely_io.specs.Lines.{lines_of}
 use Rattle.ely_io.specs.Reading.{most}
+use Rattle.ely_words.specs.declared.words.Mode.{Mode}
 use Rattle.ely_domain.specs.Given.{Given}
 use Rattle.ely_front.specs.declared.ending.Ending.{Ending}
 use Rattle.ely_front.specs.Moments.{Moment}
 use Rattle.ely_front.specs.FirstLine.{Configures}
 use Rattle.ely_front.specs.Ending.{EndsAs, IsDone, status_of, words_text}
 
--- the word of a mode
-abbrev pub is_mode : Option (List ℕ) → Bool
-is_mode None = false
-is_mode (Some word) = bytes_eq word (codes "replay")
-
--- the words are a command: the program's own name, and the one mode that there is
-abbrev pub is_command : List (List ℕ) → Bool
-is_command words = length words == 2 && is_mode (slice_get words 1)
-
--- the status is that of the ending
-abbrev pub Replays : Moment → Moment → ℕ → Type 0
-Replays before after status = (ending : Ending) × (status ≡ status_of ending) × EndsAs before after ending
+-- the mode ran to an ending, and the status is that of the ending
+abbrev pub Runs : Mode → Moment → Moment → ℕ → Type 0
+Runs mode before after status =
+    (ending : Ending) × (status ≡ status_of ending) × EndsAs mode before after ending
 
 -- a failure of the source or of the sink is answered only where that one failed
 pub record HasCauses (before after : Moment) (status : ℕ) : Type 0 where
@@ -40,15 +32,17 @@ pub record IsWithinLimits (input : Input) (bytes : List ℕ) : Type 0 where
   pub is_read : lines_of bytes ≡ first ∷ lines
   pub configures : Configures first given
 
--- Where neither the source nor the sink failed, the whole text of such bytes was written, or memory ran out.
-abbrev pub IsComplete : Moment → Moment → ℕ → Type 0
-IsComplete before after status = (bytes : List ℕ) → IsWithinLimits before.input bytes
+-- Where neither the source nor the sink failed, the mode wrote the whole text of such bytes, or memory ran out.
+abbrev pub IsComplete : Mode → Moment → Moment → ℕ → Type 0
+IsComplete mode before after status = (bytes : List ℕ) → IsWithinLimits before.input bytes
     → (Rose before.input.faults after.input.faults → ⊥)
     → (Rose before.output.faults after.output.faults → ⊥)
-    → ((status ≡ 0) × IsDone bytes before after) ⊎ (status ≡ 1)
+    → ((status ≡ 0) × IsDone mode bytes before after) ⊎ (status ≡ 1)
 
--- that the words are no command was written, or the sink failed; nothing was counted
+-- that the words are no command was written, or the sink failed, or memory ran out and nothing was written; nothing was
+-- counted
 pub record RefusesWords (before after : Moment) (status : ℕ) : Type 0 where
   pub uncounted : after.steps ≡ before.steps
   pub written : ((status ≡ 2) × Appends before.output.held after.output.held words_text)
-      ⊎ ((status ≡ 5) × AppendsPrefix before.output.held after.output.held words_text)
+      ⊎ (((status ≡ 5) × AppendsPrefix before.output.held after.output.held words_text)
+      ⊎ ((status ≡ 1) × Appends before.output.held after.output.held []))

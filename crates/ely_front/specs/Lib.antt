@@ -2,6 +2,8 @@ pub mod Moments
 pub mod FirstLine
 pub mod Line
 pub mod Lines
+pub mod Check
+pub mod Printed
 pub mod Ending
 pub mod Replay
 pub mod Loop

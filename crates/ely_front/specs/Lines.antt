@@ -1,5 +1,5 @@
 -- The lines of a script, and what is printed of them.
-use Rattle.std.specs.Prelude.{ℕ, ◌≡◌, List, [], ◌∷◌, map, Err}
+use Rattle.std.specs.Prelude.{ℕ, List, [], ◌∷◌, map, Err}
 use Rattle.ely_io.specs.declared.line.Line.{Line as Read}
 use Rattle.ely_io.specs.declared.line.Line.TheVariants.{End, Text, TooLong}
 use Rattle.ely_script.specs.Lines.{ScriptLine, read_of, too_long}
@@ -7,10 +7,8 @@ use Rattle.ely_script.specs.Text.{text}
 use Rattle.ely_domain.specs.Given.{Given}
 use Rattle.ely_domain.specs.Machine.{first_machine}
 use Rattle.ely_domain.specs.Costs.{cost_from}
-use Rattle.ely_domain.specs.Headline.{IsHistoryOf}
 use Rattle.ely_domain.specs.Keeping.{first_kept}
 use Rattle.ely_domain.specs.Replays.{Told, entry_of, steps_told, words_told}
-use Rattle.ely_front.specs.FirstLine.{Configures}
 
 -- what a reader of lines gave, read as a line of the script: nothing at the end
 abbrev pub heard : Read → List ScriptLine
@@ -30,12 +28,3 @@ text_of h = text (map entry_of h)
 -- shown
 unfoldable pub cost_of : Given → List Told → ℕ
 cost_of given h = cost_from given (first_machine given) (first_kept given) (steps_told h) (words_told h)
-
--- the text of a history of these lines
-abbrev pub IsTextOf : Given → List ScriptLine → List ℕ → Type 0
-IsTextOf given lines said = (h : List Told) × IsHistoryOf given lines h × (said ≡ text_of h)
-
--- what is printed of the lines of an input, the first of which is its configuration; without a line it is nothing
-abbrev pub IsPrinted : List (List ℕ) → List ℕ → Type 0
-IsPrinted [] said = said ≡ []
-IsPrinted (first ∷ lines) said = (given : Given) × Configures first given × IsTextOf given (script_of lines) said

@@ -1,20 +1,24 @@
-//! The calls of the program: a mode over any source and sink, and the top call, which reads the words.
+//! The calls of the program: each mode over any source and sink, and the top call, which reads the words.
 
-ghost use Rattle.std.specs.Prelude.{◌≡◌, ◌==◌, ◌&&◌, ◌≤◌, ℕ, List, false, map, IsTrue};
-ghost use Rattle.std.specs.Option.{option_map};
+ghost use Rattle.std.specs.Prelude.{◌≡◌, ℕ, map, Some, None};
 ghost use Rattle.std.specs.String.{string_bytes};
 ghost use Rattle.ely_io.specs.Causes.{Rose};
+ghost use Rattle.ely_words.specs.Modes.{mode_of};
 ghost use Rattle.ely_front.specs.Moments.{Moment, at};
 ghost use Rattle.ely_front.specs.Ending.{EndsAs};
-ghost use Rattle.ely_front.specs.Call.{is_mode, is_command, Replays, HasCauses, RefusesWords, IsComplete};
+ghost use Rattle.ely_front.specs.Call.{Runs, HasCauses, RefusesWords, IsComplete};
 
+use crate::check::Check;
+use crate::check_lines::check_lines;
 use crate::ending::{Ending, WORDS_TEXT, close};
 use crate::first_line::read_first_line;
 use crate::lines::replay_lines;
 use crate::replay::Replay;
+use ely_base::Refused;
 use ely_hash::Steps;
 use ely_io::{Sink, Source};
 use ely_job::discard;
+use ely_words::{Mode, read_words};
 use std::alloc::Global;
 use std::sync::ledger::Ledger;
 
@@ -27,7 +31,8 @@ fn replay_script<S: Source, K: Sink, L: Ledger>(
 ) -> Ending
     ghost start: { Moment }
     requires { start ≡ at (S.seen source.old) (K.seen sink.old) steps.old }
-    ensures ends { EndsAs start (at (S.seen source.new) (K.seen sink.new) steps.new) result }
+    ensures ends { EndsAs Mode.Replay start
+        (at (S.seen source.new) (K.seen sink.new) steps.new) result }
     ensures read { result ≡ Ending.Read → Rose start.input.faults (S.seen source.new).faults }
     ensures write { result ≡ Ending.Write → Rose start.output.faults (K.seen sink.new).faults }
 {
@@ -57,34 +62,56 @@ pub fn replay_call<S: Source, K: Sink, L: Ledger>(
     sink: &mut K,
     steps: &mut Steps<L>,
 ) -> u8
-    ensures history { Replays
+    ensures history { Runs Mode.Replay
         (at (S.seen source.old) (K.seen sink.old) steps.old)
         (at (S.seen source.new) (K.seen sink.new) steps.new) result }
     ensures causes { HasCauses
         (at (S.seen source.old) (K.seen sink.old) steps.old)
         (at (S.seen source.new) (K.seen sink.new) steps.new) result }
-    ensures complete { IsComplete
+    ensures complete { IsComplete Mode.Replay
         (at (S.seen source.old) (K.seen sink.old) steps.old)
         (at (S.seen source.new) (K.seen sink.new) steps.new) result }
 {
     replay_script(alloc, source, sink, steps).status()
 }
 
-/// Whether the word is that of a mode.
-fn is_mode(word: Option<&String>) -> bool
-    ensures { result ≡ is_mode (option_map (λ w. string_bytes w.now) word.entry) }
+/// Checks the script that the source gives, from the start on.
+fn check_script<S: Source, K: Sink>(alloc: Global, source: &mut S, sink: &mut K) -> Ending
+    ghost start: { Moment }
+    requires { start ≡ at (S.seen source.old) (K.seen sink.old) start.steps }
+    ensures ends { EndsAs Mode.Check start
+        (at (S.seen source.new) (K.seen sink.new) start.steps) result }
+    ensures read { result ≡ Ending.Read → Rose start.input.faults (S.seen source.new).faults }
+    ensures write { result ≡ Ending.Write → Rose start.output.faults (K.seen sink.new).faults }
 {
-    match word {
-        None => false,
-        Some(word) => word.as_bytes() == b"replay".as_slice(),
+    let mut begun = match read_first_line(alloc, source, sink) {
+        Ok(begun) => begun,
+        Err(ending) => return ending,
+    };
+    discard(begun.setup);
+    let mut check = Check::new();
+    if begun.reader.ended() {
+        return check.close(sink, Vec::new(alloc));
     }
+    check_lines(alloc, &mut check, &mut begun.reader, source, sink)
 }
 
-/// Whether the words are a command: the program's own name, and `replay`.
-fn is_command(words: &[String]) -> bool
-    ensures { result ≡ is_command (map (λ w. string_bytes w) words.now) }
+/// Reads the lines of the script that the source gives and runs none of them, and tells those that can't be read, each before
+/// it reads the next. Gives the exit status: 0 where the input was read to its end, and each line that can't be read and how
+/// many there are was written; 1 for want of memory; 3 where the first line is no configuration; 4 where the source failed; 5
+/// where the sink failed; 6 at a limit.
+pub fn check_call<S: Source, K: Sink>(alloc: Global, source: &mut S, sink: &mut K) -> u8
+    ensures history { (steps : ℕ) → Runs Mode.Check
+        (at (S.seen source.old) (K.seen sink.old) steps)
+        (at (S.seen source.new) (K.seen sink.new) steps) result }
+    ensures causes { (steps : ℕ) → HasCauses
+        (at (S.seen source.old) (K.seen sink.old) steps)
+        (at (S.seen source.new) (K.seen sink.new) steps) result }
+    ensures complete { (steps : ℕ) → IsComplete Mode.Check
+        (at (S.seen source.old) (K.seen sink.old) steps)
+        (at (S.seen source.new) (K.seen sink.new) steps) result }
 {
-    words.len() == 2 && is_mode(words.get(1))
+    check_script(alloc, source, sink).status()
 }
 
 /// Runs the program on its words, its own name first, and gives the exit status: 2 where the words are no command, and else
@@ -96,23 +123,27 @@ pub fn run<S: Source, K: Sink, L: Ledger>(
     sink: &mut K,
     steps: &mut Steps<L>,
 ) -> u8
-    ensures history { IsTrue (is_command (map (λ w. string_bytes w) words.now)) → Replays
+    ensures history { (mode : Mode) → mode_of (map (λ w. string_bytes w) words.now) ≡ Some mode
+        → Runs mode
         (at (S.seen source.old) (K.seen sink.old) steps.old)
         (at (S.seen source.new) (K.seen sink.new) steps.new) result }
-    ensures no_command { is_command (map (λ w. string_bytes w) words.now) ≡ false → RefusesWords
+    ensures no_command { mode_of (map (λ w. string_bytes w) words.now) ≡ None → RefusesWords
         (at (S.seen source.old) (K.seen sink.old) steps.old)
         (at (S.seen source.new) (K.seen sink.new) steps.new) result }
-    ensures unread { is_command (map (λ w. string_bytes w) words.now) ≡ false
+    ensures unread { mode_of (map (λ w. string_bytes w) words.now) ≡ None
         → source.new ≡ source.old }
     ensures causes { HasCauses
         (at (S.seen source.old) (K.seen sink.old) steps.old)
         (at (S.seen source.new) (K.seen sink.new) steps.new) result }
-    ensures complete { IsTrue (is_command (map (λ w. string_bytes w) words.now)) → IsComplete
+    ensures complete { (mode : Mode) → mode_of (map (λ w. string_bytes w) words.now) ≡ Some mode
+        → IsComplete mode
         (at (S.seen source.old) (K.seen sink.old) steps.old)
         (at (S.seen source.new) (K.seen sink.new) steps.new) result }
 {
-    if !is_command(words) {
-        return close(sink, &WORDS_TEXT, Ending::Words).status();
+    match read_words(alloc, words) {
+        Ok(Mode::Replay) => replay_call(alloc, source, sink, steps),
+        Ok(Mode::Check) => check_call(alloc, source, sink),
+        Err(Refused::Fault(_)) => close(sink, &WORDS_TEXT, Ending::Words).status(),
+        Err(Refused::NoMemory) => Ending::NoMemory.status(),
     }
-    replay_call(alloc, source, sink, steps)
 }

@@ -3,6 +3,7 @@
 ghost use Rattle.std.specs.Prelude.{◌≡◌, ◌≤◌, ℕ, IfOk, OnOk, IfErr, Err};
 ghost use Rattle.std.specs.Str.{bytes_eq};
 ghost use Rattle.ely_io.specs.Causes.{Rose};
+ghost use Rattle.ely_words.specs.declared.words.Mode.{Mode};
 ghost use Rattle.ely_front.specs.Moments.{at};
 ghost use Rattle.ely_front.specs.FirstLine.{given_by, conf, first_of, first_text, first_ending, IsBegun};
 ghost use Rattle.ely_config_text.specs.Texts.{fault_text};
@@ -136,7 +137,7 @@ pub(crate) fn read_first_line<S: Source, K: Sink>(
     ensures begun { IfOk result (λ begun.
         IsBegun (S.seen source.old) (S.seen source.new) begun.reader begun.setup) }
     ensures unwritten { OnOk result (sink.new ≡ sink.old) }
-    ensures ended { IfErr result (λ ending. (steps : ℕ) → EndsAs
+    ensures ended { IfErr result (λ ending. (mode : Mode) (steps : ℕ) → EndsAs mode
         (at (S.seen source.old) (K.seen sink.old) steps)
         (at (S.seen source.new) (K.seen sink.new) steps) ending) }
     ensures read { result ≡ Err Ending.Read

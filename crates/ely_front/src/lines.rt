@@ -17,6 +17,7 @@ use ely_base::{NoMemory, Refused};
 use ely_hash::Steps;
 use ely_io::{Line, LineReader, Sink, Source, WriteFault, write_all};
 use ely_script::{Command, LineError, MAX_LINE_BYTES, read_line, too_long};
+use ely_words::Mode;
 use std::alloc::Global;
 use std::sync::ledger::Ledger;
 
@@ -24,7 +25,10 @@ use std::sync::ledger::Ledger;
 const MUCH: usize = 4096;
 
 /// Reads a line of the script, or says its fault.
-fn read_script_line(alloc: Global, line: &[u8]) -> Result<Result<Command, LineError>, NoMemory>
+pub(crate) fn read_script_line(
+    alloc: Global,
+    line: &[u8],
+) -> Result<Result<Command, LineError>, NoMemory>
     ensures { IfOk result (λ read. read ≡ read_of line.now) }
 {
     match read_line(alloc, line) {
@@ -60,7 +64,7 @@ fn answer_line<L: Ledger>(
 }
 
 /// Gives the memory of a line back to its reader.
-fn hand_back(reader: &mut LineReader, line: Line)
+pub(crate) fn hand_back(reader: &mut LineReader, line: Line)
     ensures { reader.new ≡ reader.old }
 {
     if let Line::Text(text) = line {
@@ -69,7 +73,11 @@ fn hand_back(reader: &mut LineReader, line: Line)
 }
 
 /// Writes what is collected, where the source is to be read next or where it is much.
-fn write_on<K: Sink>(sink: &mut K, out: &mut Vec<u8>, more: bool) -> Result<(), WriteFault>
+pub(crate) fn write_on<K: Sink>(
+    sink: &mut K,
+    out: &mut Vec<u8>,
+    more: bool,
+) -> Result<(), WriteFault>
     ensures bytes { MatchResult result
         (λ _. WritesOn (K.seen sink.old) (K.seen sink.new) out.old.items out.new.items more)
         (λ _. AppendsPrefix (K.seen sink.old).held (K.seen sink.new).held out.old.items) }
@@ -96,7 +104,8 @@ pub(crate) fn replay_lines<S: Source, K: Sink, L: Ledger>(
     ghost start: { Moment }
     requires { IsUnderWay start
         (at (S.seen source.old) (K.seen sink.old) steps.old) reader.old replay.old [] }
-    ensures ends { EndsAs start (at (S.seen source.new) (K.seen sink.new) steps.new) result }
+    ensures ends { EndsAs Mode.Replay start
+        (at (S.seen source.new) (K.seen sink.new) steps.new) result }
     ensures read { result ≡ Ending.Read
         → Rose (S.seen source.old).faults (S.seen source.new).faults }
     ensures write { result ≡ Ending.Write

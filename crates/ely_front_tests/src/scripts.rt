@@ -99,6 +99,29 @@ fn other_words_are_refused(rt: HostRuntime) -> Result<(), Fail> {
     Ok(())
 }
 
+#[test]
+fn a_check_tells_the_lines_that_cannot_be_read(rt: HostRuntime) -> Result<(), Fail> {
+    let rows: [Row; 4] = [
+        (
+            b"{}\n0 add main user\n0 zap\n",
+            0,
+            b"2 bad-line verb\nchecked 2 lines 1 bad\n",
+        ),
+        (b"{}", 0, b"checked 0 lines 0 bad\n"),
+        (
+            b"{}\n\n7 succeed 1",
+            0,
+            b"1 bad-line no-actor\nchecked 2 lines 1 bad\n",
+        ),
+        (b"{\"x\":1}\n0 zap\n", 3, b"config /x unknown\n"),
+    ];
+    for (input, status, text) in rows {
+        let (ended, said, _) = ran(&rt, &["elydom", "check"], input, &WHOLE)?;
+        assert!(rt; ended == status && said.as_slice() == text);
+    }
+    Ok(())
+}
+
 /// Each verb that is carried out.
 const VERBS: &[u8] = b"{}
 0 add main user
