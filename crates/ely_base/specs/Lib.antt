@@ -6,3 +6,4 @@ pub mod Numbers
 pub mod Words
 pub mod Parts
 pub mod Appended
+pub mod Blanks

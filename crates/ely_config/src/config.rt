@@ -8,11 +8,11 @@ ghost use Rattle.ely_config.specs.Configs.{plain_config, config_fault, config_of
 
 use crate::bounds::{bounds_fault, target_fault};
 use crate::fault::ConfigFault;
-use crate::members::{Members, discard};
+use crate::members::Members;
 use crate::realm::RealmConfig;
 use crate::realm_faults::realms_fault;
 use crate::references::realm_named;
-use ely_base::{Bytes, Name, NoMemory, Refused};
+use ely_base::{Bytes, Name, NoMemory, Refused, discard};
 use ely_perm::Permissions;
 use ely_pipeline::Pipeline;
 use ely_roles::RoleMapper;

@@ -28,11 +28,6 @@ pub struct Members {
     pub permissions: Permissions,
 }
 
-/// Lets a value go. What owns much is let go here, since the prover looks into each drop wherever it stands.
-pub(crate) fn discard<D: Drop>(value: D) {
-    let _ = value;
-}
-
 /// The pipeline that leads each name, as it is, to the realm `main`.
 fn plain_pipeline(alloc: Global) -> Result<Pipeline, NoMemory>
     ensures { IfOk result (λ pipe. pipe ≡ plain_pipeline) }

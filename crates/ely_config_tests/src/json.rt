@@ -1,16 +1,11 @@
 //! The typed parts that JSON texts stand for.
 
-use ely_base::{NoMemory, Refused};
+use ely_base::{NoMemory, Refused, discard};
 use ely_config::{Config, Members};
 use ely_config_json::read_members;
 use serde_json::Value;
 use std::alloc::{AllocError, Global};
 use std::test::Fail;
-
-/// Lets a value go. What owns much is let go here, since the prover looks into each drop wherever it stands.
-fn discard<D: Drop>(value: D) {
-    let _ = value;
-}
 
 /// Which part of the members is printed.
 #[derive(Clone, Copy)]

@@ -1,15 +1,10 @@
 //! Lines with what is written for each that is no configuration.
 
-use ely_base::{NoMemory, Refused};
+use ely_base::{NoMemory, Refused, discard};
 use ely_config::Config;
 use ely_config_text::{TextFault, push_fault, read_config};
 use std::alloc::Global;
 use std::test::Fail;
-
-/// Lets a value go. What owns much is let go here, since the prover looks into each drop wherever it stands.
-fn discard<D: Drop>(value: D) {
-    let _ = value;
-}
 
 /// The line that tells the fault, without its LF.
 fn told(alloc: Global, fault: &TextFault) -> Result<Vec<u8>, NoMemory> {

@@ -6,28 +6,9 @@ ghost use Rattle.ely_base.specs.Appended.{Extends};
 ghost use Rattle.ely_config_text.specs.Places.{fault_path, is_constant, mapped_path, reference_path, within_realm, wrong_between, wrong_realm};
 
 use crate::fault::Wrong;
-use ely_base::{NoMemory, push_number};
+use ely_base::{NoMemory, push_counted, push_text};
 use ely_config::{ConfigFault, RealmFault, Reference};
 use ely_pipeline::RealmMapper;
-
-/// Puts the text behind what is there.
-pub(crate) fn push_text(out: &mut Vec<u8>, text: &[u8]) -> Result<(), NoMemory>
-    ensures ok { OnOk result (out.new.items ≡ out.old.items ++ text.now) }
-    ensures err { OnErr result (Extends out.old.items out.new.items) }
-{
-    out.extend_from_slice(text)?;
-    Ok(())
-}
-
-/// Puts the text and the decimal digits of the number behind what is there.
-fn push_counted(out: &mut Vec<u8>, text: &[u8], number: u64) -> Result<(), NoMemory>
-    ensures ok { OnOk result (out.new.items ≡ out.old.items ++ (text.now ++ decimal number)) }
-    ensures err { OnErr result (Extends out.old.items out.new.items) }
-{
-    push_text(out, text)?;
-    push_number(out, number)?;
-    Ok(())
-}
 
 /// Puts the path of a reference within its realm behind what is there.
 fn push_reference(out: &mut Vec<u8>, reference: Reference) -> Result<(), NoMemory>

@@ -10,17 +10,12 @@ ghost use Rattle.ely_config_text.specs.Texts.{config_in, judged, placed, value_i
 
 use crate::fault::{TextFault, wrong_of};
 use crate::place::{is_constant, push_place, wrong_between};
-use ely_base::{Bytes, NoMemory, Refused};
+use ely_base::{Bytes, NoMemory, Refused, discard};
 use ely_config::{Config, ConfigFault, Members};
 use ely_config_json::read_members;
 use ely_config_tree::{TreeFault, push_path, tree_fault};
 use serde_json::Value;
 use std::alloc::Global;
-
-/// Lets a value go. What owns much is let go here, since the prover looks into each drop wherever it stands.
-fn discard<D: Drop>(value: D) {
-    let _ = value;
-}
 
 /// The JSON value whose text the line is, where it is one.
 fn read_value(alloc: Global, line: &[u8]) -> Result<Option<Value>, NoMemory>

@@ -7,8 +7,7 @@ ghost use Rattle.ely_script.specs.FaultTexts.{prop_text};
 ghost use Rattle.ely_config_text.specs.Texts.{fault_text, wrong_text};
 
 use crate::fault::{TextFault, Wrong};
-use crate::place::push_text;
-use ely_base::{NoMemory, push_number};
+use ely_base::{NoMemory, push_number, push_text};
 use ely_row::PropFault;
 
 /// Puts the text and the number of a line behind what is there.

@@ -8,7 +8,8 @@ use Rattle.std.proofs.lemmas.List.Sums.{take_while-cons}
 use Rattle.std.specs.List.{prefix_len, take_while, list_all}
 use Rattle.std.specs.Option.{ok_or, is_some}
 use Rattle.ely_base.specs.Refused.{◌>>=◌}
-use Rattle.ely_digest_msg.specs.Parts.{is_blank, is_gap, is_token, after, starts, with_byte, quoted_of, token_of, equals_of, value_of, end_of, offset}
+use Rattle.ely_base.specs.Blanks.{is_blank}
+use Rattle.ely_digest_msg.specs.Parts.{is_gap, is_token, after, starts, with_byte, quoted_of, token_of, equals_of, value_of, end_of, offset}
 use Rattle.ely_digest_msg.specs.Fields.{Values, known, given, nothing}
 use Rattle.ely_digest_msg.specs.Members.{first_time, kept, member_of, members_of, list_of}
 use Rattle.ely_digest_msg.specs.Grammar.{IsToken, Quotes, IsValue, Member, IsMember, BeginsWith, IsListOf, IsNew, AreNew, values_with, IsRead}

@@ -2,7 +2,8 @@
 use Rattle.std.specs.Prelude.{◌≡◌, ◌≢◌, ◌⊎◌, ℕ, ◌<◌, true, false, List, [], ◌∷◌, ◌++◌, length, Option, Some, None, Ok, Err}
 use Rattle.std.specs.List.{list_all}
 use Rattle.std.specs.Option.{is_some}
-use Rattle.ely_digest_msg.specs.Parts.{is_blank, is_gap, is_token, after}
+use Rattle.ely_base.specs.Blanks.{is_blank}
+use Rattle.ely_digest_msg.specs.Parts.{is_gap, is_token, after}
 use Rattle.ely_digest_msg.specs.Fields.{Values, known, given, nothing}
 use Rattle.ely_digest_msg.specs.Members.{kept, member_of, list_of}
 use Rattle.ely_digest_msg.specs.declared.fault.DigestFault.{DigestFault}

@@ -4,12 +4,9 @@ use Rattle.std.specs.List.{prefix_len, take_while, list_any}
 use Rattle.std.specs.Option.{option_map, ok_or}
 use Rattle.std.specs.Char.{is_ascii_alphanumeric, to_ascii_lowercase}
 use Rattle.std.specs.Str.{bytes_eq}
+use Rattle.ely_base.specs.Blanks.{is_blank}
 use Rattle.ely_digest_msg.specs.declared.fault.DigestFault.{DigestFault}
 use Rattle.ely_digest_msg.specs.declared.fault.DigestFault.TheVariants.{Token, Quote}
-
--- a space or a tab (RFC 7230 section 3.2.3)
-abbrev pub is_blank : ℕ → Bool
-is_blank b = b == 32 || b == 9
 
 -- a blank or a comma: what may stand before a member, since empty members are passed over (RFC 7230 section 7)
 abbrev pub is_gap : ℕ → Bool

@@ -6,18 +6,13 @@ ghost use Rattle.std.specs.Prelude.{◌≡◌, ◌≤◌, ◌<◌, ◌+◌, None
 ghost use Rattle.std.specs.List.{prefix_len};
 ghost use Rattle.std.specs.Option.{ok_or};
 ghost use Rattle.ely_digest_msg.specs.declared.fault.DigestFault.TheVariants.{Quote};
-ghost use Rattle.ely_digest_msg.specs.Parts.{is_blank, is_gap, is_token, after, starts, same_word, unescaped, quoted_of, offset, token_of, value_of, equals_of, end_of};
+ghost use Rattle.ely_base.specs.Blanks.{is_blank};
+ghost use Rattle.ely_digest_msg.specs.Parts.{is_gap, is_token, after, starts, same_word, unescaped, quoted_of, offset, token_of, value_of, equals_of, end_of};
 
 use crate::fault::DigestFault;
 use crate::quoted::Quoted;
 use crate::rest::{Rest, from_offset};
-
-/// Whether the byte is a space or a tab.
-fn is_blank(b: u8) -> bool
-    ensures { result ≡ is_blank b }
-{
-    b == b' ' || b == b'\t'
-}
+use ely_base::is_blank;
 
 /// Whether a token may hold the byte.
 fn is_token(b: u8) -> bool

@@ -13,14 +13,14 @@ ghost use Rattle.ely_domain.specs.Steps.{is_evidence_of, use_refusal, shown_refu
 ghost use Rattle.ely_domain.specs.Verdicts.{said_by, server_first, message_told, header_told, verdict_told, verdict};
 
 use crate::naming::is_alg_of;
-use ely_base::Bytes;
+use ely_base::{Bytes, discard};
 use ely_config::Config;
 use ely_context::{Context, Naming};
 use ely_cred::Ready;
 use ely_digest::{NonceTable, SpendFault};
 use ely_digest_msg::DigestReply;
 use ely_hash::Steps;
-use ely_job::{Done, Verdict, digest_judgement, discard, password_verdict, scram_verdict};
+use ely_job::{Done, Verdict, digest_judgement, password_verdict, scram_verdict};
 use ely_row::Mech;
 use ely_scram_msg::ClientLast;
 use ely_script::{Claim, Evidence, Outcome, StateWord};

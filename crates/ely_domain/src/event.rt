@@ -5,8 +5,8 @@ ghost use Rattle.ely_domain.specs.Events.{edit_word, word_of};
 ghost use Rattle.ely_domain.specs.Lines.{carrier};
 ghost use Rattle.ely_domain.specs.Steps.{carried, is_carried, not_there};
 
-use ely_base::{Bytes, CtxId, Serial};
-use ely_job::{Done, Job, discard};
+use ely_base::{Bytes, CtxId, Serial, discard};
+use ely_job::{Done, Job};
 use ely_row::{Edit, Mech};
 use ely_script::{BadLine, CacheWord, Claim, Evidence, Outcome, StateWord, StepWord};
 

@@ -7,9 +7,8 @@ ghost use Rattle.ely_front.specs.Check.{bad_line, line_told, count_bad, total_te
 ghost use Rattle.ely_front.specs.Ending.{Closes};
 
 use crate::ending::{Ending, close, stop};
-use ely_base::{NoMemory, Refused, push_number};
+use ely_base::{NoMemory, Refused, discard, push_number};
 use ely_io::Sink;
-use ely_job::discard;
 use ely_script::{BadLine, CacheWord, Command, Entry, LineError, Outcome, StepWord, print_step};
 use std::alloc::Global;
 

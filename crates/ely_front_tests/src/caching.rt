@@ -4,12 +4,12 @@ ghost use Rattle.std.specs.Prelude.{◌≡◌, ◌<◌};
 
 use crate::config::{config_of, counted, domain_of, push_line};
 use crate::making::{behind, beside, put};
-use ely_base::{Bytes, CtxId, Items, Name, NoMemory, Serial};
+use ely_base::{Bytes, CtxId, Items, Name, NoMemory, Serial, discard};
 use ely_config::{Config, Members, RealmConfig, RealmKind};
 use ely_digest_msg::DigestAlg;
 use ely_domain::{Domain, Event};
 use ely_hash::Steps;
-use ely_job::{Done, Job, discard};
+use ely_job::{Done, Job};
 use ely_pipeline::Rule;
 use ely_row::Params;
 use ely_script::{Claim, Entry, Evidence, push_step};

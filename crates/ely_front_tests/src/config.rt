@@ -3,12 +3,11 @@
 ghost use Rattle.std.specs.Prelude.{◌≡◌, ◌<◌};
 
 use crate::making::{behind, beside, put};
-use ely_base::{Bytes, CtxId, Items, Name, NoMemory, Refused, Serial};
+use ely_base::{Bytes, CtxId, Items, Name, NoMemory, Refused, Serial, discard};
 use ely_config::{Config, Members, RealmConfig, RealmKind};
 use ely_domain::{Domain, Event, JOURNAL_LIMIT};
 use ely_front::run_line;
 use ely_hash::Steps;
-use ely_job::discard;
 use ely_pipeline::Rule;
 use ely_script::{
     Claim, Command, Entry, Evidence, LineError, Outcome, StateWord, push_step, read_line,

@@ -18,5 +18,4 @@ pub use done::Done;
 pub use job::Job;
 pub use run::password_verdict;
 pub use scram::scram_verdict;
-pub use taking::discard;
 pub use verdict::{Finished, Verdict};

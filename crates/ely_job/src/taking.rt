@@ -14,18 +14,13 @@ ghost use Rattle.ely_job.specs.declared.job.Work.TheVariants as works;
 use crate::done::Done;
 use crate::job::{Job, Work};
 use crate::verdict::{Finished, Verdict};
-use ely_base::Bytes;
+use ely_base::{Bytes, discard};
 use ely_cred::Ready;
 use ely_digest_msg::DigestReply;
 use ely_hash::same;
 use ely_pipeline::Place;
 use ely_row::{Mech, Params, SharedRow};
 use ely_scram_msg::{ClientFirst, ClientLast};
-
-/// Lets a value go. What owns much is let go here, since the prover looks into each drop wherever it stands.
-pub fn discard<D: Drop>(value: D) {
-    let _ = value;
-}
 
 /// Whether the job is the derivation of this row's key.
 fn is_derivation(job: &Job, place: &Place, row: &SharedRow, mech: Mech, params: &Params) -> bool

@@ -4,7 +4,7 @@ ghost use Rattle.std.specs.Prelude.{◌≡◌, ◌<◌, None, Some, OnOk, OnErr,
 ghost use Rattle.ely_context.specs.ContextTable.{fail};
 ghost use Rattle.ely_context.specs.Logins.{moved_at, state_at};
 
-use ely_base::{Bytes, CtxId, Name, NoMemory, Serial, Version};
+use ely_base::{Bytes, CtxId, Name, NoMemory, Serial, Version, discard};
 use ely_context::{Context, Logins, Pin, StateWord};
 use ely_cred::{Ready, choose, derive};
 use ely_hash::Steps;
@@ -15,11 +15,6 @@ use std::alloc::Global;
 use std::marker::Brand;
 use std::sync::ledger::{Blank, Ledger};
 use std::test::Fail;
-
-/// Lets a value go. What owns much is let go here, since the prover looks into each drop wherever it stands.
-fn discard<D: Drop>(value: D) {
-    let _ = value;
-}
 
 /// What is there, with what was made beside it. Where that wanted memory, what is there is let go here.
 fn beside<A: Drop, B>(there: A, made: Result<B, NoMemory>) -> Result<(A, B), NoMemory> {

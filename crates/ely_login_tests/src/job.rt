@@ -3,11 +3,11 @@
 
 ghost use Rattle.std.specs.Prelude.{◌≡◌, ◌<◌};
 
-use ely_base::{Bytes, Name, NoMemory};
+use ely_base::{Bytes, Name, NoMemory, discard};
 use ely_cred::{Ready, ReadyKey, choose};
 use ely_digest_msg::{DigestAlg, DigestReply};
 use ely_hash::{Md5Alg, Steps};
-use ely_job::{Done, Finished, Job, Verdict, digest_verdict, discard};
+use ely_job::{Done, Finished, Job, Verdict, digest_verdict};
 use ely_pipeline::Place;
 use ely_row::{Mech, Params, Row, SharedRow, StoredCred, is_salt};
 use ely_scram_msg::{ClientFirst, ClientLast, read_client_first, read_client_last, write_verifier};

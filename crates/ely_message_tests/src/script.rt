@@ -1,4 +1,4 @@
-use ely_base::{Bytes, Name, NoMemory, Refused, Serial, Version, cut_at};
+use ely_base::{Bytes, Name, NoMemory, Refused, Serial, Version, cut_at, discard};
 use ely_hash::Tag;
 use ely_pipeline::{PipeFault, Place};
 use ely_row::{Edit, EditFault, Mech, PropFault, Roles};
@@ -31,11 +31,6 @@ fn step(verb: &Verb) -> StepWord {
         Verb::Close { .. } => StepWord::Close,
         Verb::Allows { .. } => StepWord::Allows,
     }
-}
-
-/// Lets a value go. What owns much is let go here, since the prover looks into each drop wherever it stands.
-fn discard<D: Drop>(value: D) {
-    let _ = value;
 }
 
 /// The printed line of a step with this outcome.

@@ -1,7 +1,8 @@
 -- The name of a line, up to the first `=` that isn't escaped.
 use Rattle.std.specs.Prelude.{ℕ, ◌==◌, ◌&&◌, Bool, true, false, not, if◌then◌else◌, List, [], ◌∷◌, map, Option, Some, None}
 use Rattle.std.specs.Option.{option_map}
-use Rattle.ely_propfile.specs.Lines.{is_blank, without_suffix}
+use Rattle.ely_base.specs.Blanks.{is_blank}
+use Rattle.ely_propfile.specs.Lines.{without_suffix}
 
 -- bytes of a name, each with whether a backslash escapes it
 abbrev pub Marked : Type 0

@@ -2,11 +2,8 @@
 use Rattle.std.specs.Prelude.{ℕ, ◌-◌, ◌==◌, ◌||◌, Bool, List, [], ◌∷◌, length, take, drop}
 use Rattle.std.specs.List.{prefix_len, suffix_len}
 use Rattle.std.specs.Str.Lines.{strip_carriage_return}
+use Rattle.ely_base.specs.Blanks.{is_blank}
 use Rattle.ely_base.specs.Parts.{parts_at}
-
--- a space or a tab
-abbrev pub is_blank : ℕ → Bool
-is_blank b = b == 32 || b == 9
 
 -- without the prefix of items that pass
 abbrev pub without_prefix : {X : Type 0} → (X → Bool) → List X → List X

@@ -2,16 +2,11 @@
 
 ghost use Rattle.std.specs.Prelude.{◌≡◌, ◌≤◌, length};
 ghost use Rattle.std.specs.List.{prefix_len, suffix_len};
-ghost use Rattle.ely_propfile.specs.Lines.{is_blank, trimmed_start, without_suffix, trimmed};
+ghost use Rattle.ely_base.specs.Blanks.{is_blank};
+ghost use Rattle.ely_propfile.specs.Lines.{trimmed_start, without_suffix, trimmed};
 
 use crate::part::{from_offset, up_to};
-
-/// Whether the byte is a space or a tab.
-pub fn is_blank(b: u8) -> bool
-    ensures { result ≡ is_blank b }
-{
-    b == b' ' || b == b'\t'
-}
+use ely_base::is_blank;
 
 /// How many blanks the text begins with.
 fn leading_len(text: &[u8]) -> usize

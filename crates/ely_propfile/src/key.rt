@@ -4,9 +4,8 @@ ghost use Rattle.std.specs.Prelude.{◌≡◌, ◌<◌, ◌+◌, ◌++◌, [], �
 ghost use Rattle.ely_propfile.specs.Keys.{is_bare_blank, key_of, split_of};
 ghost use Rattle.ely_propfile.specs.Steps.{key_from, IsShorter};
 
-use crate::blank::is_blank;
 use crate::part::{Part, from_offset};
-use ely_base::{Bytes, NoMemory};
+use ely_base::{Bytes, NoMemory, is_blank};
 use std::alloc::Global;
 
 /// What stands next in a name.

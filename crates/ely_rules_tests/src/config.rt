@@ -1,7 +1,7 @@
 //! Configurations that are taken, and the first fault of others.
 
 use self::Form::{Joined, Kept, Own, Texts};
-use ely_base::{Bytes, Items, Name, NoMemory, Refused};
+use ely_base::{Bytes, Items, Name, NoMemory, Refused, discard};
 use ely_config::RealmFault::{Limit, Nested, Unknown};
 use ely_config::Reference::{Authentication, Authorization, Of};
 use ely_config::{Config, ConfigFault, Members, RealmConfig, RealmFault, RealmKind};
@@ -12,11 +12,6 @@ use ely_row::{Params, PropFault};
 use std::alloc::Global;
 use std::fmt::Debug;
 use std::test::Fail;
-
-/// Lets a value go. What owns much is let go here, since the prover looks into each drop wherever it stands.
-fn discard<D: Drop>(value: D) {
-    let _ = value;
-}
 
 /// What is there with what was made beside it. Where that wanted memory, what is there is let go here.
 fn beside<A: Drop, B>(there: A, made: Result<B, NoMemory>) -> Result<(A, B), NoMemory> {

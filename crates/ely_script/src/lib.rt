@@ -16,7 +16,6 @@ mod print_fault;
 mod print_outcome;
 mod verbs;
 mod word;
-mod write;
 
 pub use claim::{Claim, Evidence};
 pub use command::{Command, LineError, Verb};

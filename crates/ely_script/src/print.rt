@@ -6,8 +6,7 @@ ghost use Rattle.ely_script.specs.Text.{line_text, numbered};
 
 use crate::entry::Entry;
 use crate::print_outcome::push_outcome;
-use crate::write::{push_both, push_counted, push_text};
-use ely_base::{Bytes, NoMemory, push_number};
+use ely_base::{Bytes, NoMemory, push_both, push_counted, push_number, push_text};
 use std::alloc::Global;
 
 /// Writes the printed line of the step with this number, as one of this line of its actor, with its LF, behind what is there.

@@ -7,8 +7,7 @@ ghost use Rattle.ely_script.specs.OutcomeTexts.{challenge_text, verifier_text, r
 use crate::outcome::Outcome;
 use crate::print_fault::{push_bad, push_fault, push_stage};
 use crate::word::mech_word;
-use crate::write::{push_both, push_coded, push_counted, push_text, push_worded};
-use ely_base::{Bytes, Name, NoMemory};
+use ely_base::{Bytes, Name, NoMemory, push_both, push_coded, push_counted, push_text, push_worded};
 use ely_hash::Tag;
 use ely_pipeline::Place;
 
