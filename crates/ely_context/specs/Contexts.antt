@@ -5,7 +5,7 @@ use Rattle.ely_context.specs.declared.naming.Naming.{Naming}
 use Rattle.ely_context.specs.declared.pin.Pin.{Pin}
 use Rattle.ely_context.specs.declared.stage.Stage.{Stage}
 use Rattle.ely_context.specs.Stages.{Login}
-use Rattle.ely_script.specs.declared.claim.Evidence.{Evidence}
+use Rattle.ely_login.specs.declared.claim.Evidence.{Evidence}
 
 -- a context's stage
 abbrev pub ContextStage : Type 0

@@ -2,8 +2,8 @@
 -- E what it shows.
 use Rattle.std.specs.Prelude.{ℕ, List, Option, Some, None}
 use Rattle.ely_row.specs.declared.mech.Mech.{Mech}
-use Rattle.ely_script.specs.declared.word.StateWord.{StateWord}
-use Rattle.ely_script.specs.declared.word.StateWord.TheVariants as words
+use Rattle.ely_login.specs.declared.word.StateWord.{StateWord}
+use Rattle.ely_login.specs.declared.word.StateWord.TheVariants as words
 use Rattle.ely_context.specs.declared.stage.Stage.{Stage}
 use Rattle.ely_context.specs.declared.stage.Stage.TheVariants.{Fresh, Loading, Named, Checking, Proved, Authorized, Complete, Failed}
 

@@ -11,8 +11,8 @@ use crate::pin::Pin;
 use crate::stage::Stage;
 use ely_base::{Bytes, Serial};
 use ely_cred::Ready;
+use ely_login::{Evidence, StateWord};
 use ely_row::Mech;
-use ely_script::{Evidence, StateWord};
 use std::marker::Model;
 
 /// A login: the number of its open, its mechanism, its nonce and how far it has come. A call that the table of states has

@@ -5,7 +5,7 @@ ghost use Rattle.std.specs.Option.{option_copied, option_map};
 ghost use Rattle.ely_context.specs.ContextTable.{name1, name2, check1, check2, authorize, succeed, fail};
 ghost use Rattle.ely_context.specs.Stages.{state_of, pin_of, key_of, evidence_of, loading_pin, named_parts, proved_pin, complete_pin, checked_parts};
 
-use ely_script::StateWord;
+use ely_login::StateWord;
 use std::mem;
 
 /// A state of a login, with what it needs: what its naming pinned, what it is judged by once it is named, and what it shows

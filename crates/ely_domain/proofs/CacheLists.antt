@@ -18,8 +18,8 @@ use Rattle.ely_cache.specs.Caches.{at_cache, cache_of, kept_for, untouched_in}
 use Rattle.ely_cache.specs.Codes.{key_of}
 use Rattle.ely_cache.specs.Entries.{entry_of, promoted, offered, untouched}
 use Rattle.ely_cache.proofs.EachEntries.{each-added, each-at_offered, each-at_promoted, each-kept}
-use Rattle.ely_script.specs.declared.word.CacheWord.{CacheWord}
-use Rattle.ely_script.specs.declared.word.CacheWord.TheVariants as words
+use Rattle.ely_login.specs.declared.word.CacheWord.{CacheWord}
+use Rattle.ely_login.specs.declared.word.CacheWord.TheVariants as words
 use Rattle.ely_domain.specs.Caches.{AreCurrent, IsCurrent, key_in, keys_in, lists_of, place_in}
 use Rattle.ely_pipeline.specs.declared.place.Place.{Place}
 use Rattle.ely_domain.specs.Identities.{Known, deps, key_at}

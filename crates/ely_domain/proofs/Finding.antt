@@ -10,9 +10,9 @@ use Rattle.ely_pipeline.specs.declared.place.PipeFault.{PipeFault}
 use Rattle.ely_pipeline.specs.declared.place.Place.{Place}
 use Rattle.ely_row.specs.Rows.{Row}
 use Rattle.ely_cred.specs.Keys.{chosen}
-use Rattle.ely_script.specs.declared.claim.Claim.{Claim}
-use Rattle.ely_script.specs.declared.outcome.Outcome.{Outcome}
-use Rattle.ely_script.specs.declared.outcome.Outcome.TheVariants as outcomes
+use Rattle.ely_login.specs.declared.claim.Claim.{Claim}
+use Rattle.ely_login.specs.declared.outcome.Outcome.{Outcome}
+use Rattle.ely_login.specs.declared.outcome.Outcome.TheVariants as outcomes
 use Rattle.ely_domain.specs.declared.naming.Found.{Found}
 use Rattle.ely_domain.specs.Contexts.{Finds}
 use Rattle.ely_domain.specs.Given.{place_of}

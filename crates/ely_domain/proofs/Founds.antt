@@ -2,8 +2,8 @@
 use Rattle.std.proofs.Common.{◌≡◌, ℕ, List, Option, Some, sym, ap, ◌∙◌}
 use Rattle.std.specs.Prelude.{unwrap_or}
 use Rattle.std.specs.Option.{option_map}
-use Rattle.ely_script.specs.declared.word.CacheWord.{CacheWord}
-use Rattle.ely_script.specs.declared.word.CacheWord.TheVariants as words
+use Rattle.ely_login.specs.declared.word.CacheWord.{CacheWord}
+use Rattle.ely_login.specs.declared.word.CacheWord.TheVariants as words
 use Rattle.ely_context.specs.Contexts.{ContextLogin}
 use Rattle.ely_context.specs.Logins.{AreRising, login_of, with_login, without_login}
 use Rattle.ely_context.proofs.LoginLemmas.{login_of-each_login, with_login-each_login, with_login-same, without_login-each_login}

@@ -2,17 +2,17 @@
 use Rattle.std.proofs.Common.{◌≡◌, ℕ, Bool, true, false, cond, List, Option, Some, None, Result, Ok, Err, refl, sym, inl, inr}
 use Rattle.std.specs.Prelude.{is_some, option_and_then}
 use Rattle.std.specs.Option.{option_map_or}
-use Rattle.ely_script.specs.declared.word.CacheWord.{CacheWord}
-use Rattle.ely_script.specs.declared.word.CacheWord.TheVariants as words
+use Rattle.ely_login.specs.declared.word.CacheWord.{CacheWord}
+use Rattle.ely_login.specs.declared.word.CacheWord.TheVariants as words
 use Rattle.ely_domain.specs.Keeping.{Kept, Nothing, found_at, means, word_by}
 use Rattle.ely_domain.specs.KeptKeys.{RealmKeys}
 use Rattle.ely_job.specs.declared.job.Work.{Work}
-use Rattle.ely_script.specs.declared.claim.Claim.{Claim}
-use Rattle.ely_script.specs.declared.claim.Evidence.{Evidence}
-use Rattle.ely_script.specs.declared.outcome.Outcome.{Outcome}
-use Rattle.ely_script.specs.declared.outcome.Outcome.TheVariants as outcomes
-use Rattle.ely_script.specs.declared.word.StateWord.TheVariants as states
-use Rattle.ely_script.specs.Outcomes.{is_accepted}
+use Rattle.ely_login.specs.declared.claim.Claim.{Claim}
+use Rattle.ely_login.specs.declared.claim.Evidence.{Evidence}
+use Rattle.ely_login.specs.declared.outcome.Outcome.{Outcome}
+use Rattle.ely_login.specs.declared.outcome.Outcome.TheVariants as outcomes
+use Rattle.ely_login.specs.declared.word.StateWord.TheVariants as states
+use Rattle.ely_login.specs.Outcomes.{is_accepted}
 use Rattle.ely_context.specs.declared.stage.Stage.TheVariants.{Fresh, Loading, Named, Checking, Proved, Authorized, Complete, Failed}
 use Rattle.ely_context.specs.Logins.{login_of}
 use Rattle.ely_domain.specs.declared.event.Event.{Event}
@@ -25,7 +25,7 @@ use Rattle.ely_domain.specs.Logins.{Pinned, KnownStage, KnownLogin, Live}
 use Rattle.ely_domain.specs.Machine.{Machine, Answered, known, answered, answered_for, carried_out, step}
 use Rattle.ely_domain.specs.Steps.{Reply, Stays, is_evidence_of, is_carried, naming, pinned_or, name1, check1, shown_refusal, shown_or}
 use Rattle.ely_domain.proofs.Seeing.{itself_with}
-use Rattle.ely_domain.proofs.Tracking.{naming_refuses}
+use Rattle.ely_domain.proofs.NamingLemmas.{naming_refuses}
 use Rattle.ely_domain.proofs.Using.{IsUseRefusal, refused_by}
 
 -- what an answer hands out that shows this word

@@ -4,12 +4,12 @@ use Rattle.std.specs.Prelude.{IfOk, is_some}
 use Rattle.std.specs.Option.{option_map, option_map_or}
 use Rattle.ely_cache.specs.declared.caches.RealmCache.{RealmCache}
 use Rattle.ely_digest.specs.Nonces.{Nonces}
-use Rattle.ely_script.specs.declared.outcome.Outcome.{Outcome}
-use Rattle.ely_script.specs.declared.outcome.Outcome.TheVariants as outcomes
-use Rattle.ely_script.specs.declared.word.CacheWord.{CacheWord}
-use Rattle.ely_script.specs.declared.word.CacheWord.TheVariants as words
-use Rattle.ely_script.specs.declared.word.StateWord.TheVariants as states
-use Rattle.ely_script.specs.Outcomes.{is_accepted}
+use Rattle.ely_login.specs.declared.outcome.Outcome.{Outcome}
+use Rattle.ely_login.specs.declared.outcome.Outcome.TheVariants as outcomes
+use Rattle.ely_login.specs.declared.word.CacheWord.{CacheWord}
+use Rattle.ely_login.specs.declared.word.CacheWord.TheVariants as words
+use Rattle.ely_login.specs.declared.word.StateWord.TheVariants as states
+use Rattle.ely_login.specs.Outcomes.{is_accepted}
 use Rattle.ely_context.specs.Contexts.{ContextLogin}
 use Rattle.ely_context.specs.Logins.{AreRising, login_of, with_login}
 use Rattle.ely_context.proofs.LoginLemmas.{login_of-each_login}

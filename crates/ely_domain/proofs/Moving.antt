@@ -3,8 +3,8 @@ use Rattle.std.proofs.Common.{◌≡◌, ℕ, Bool, true, false, cond, eqb, List
 use Rattle.std.specs.Prelude.{◌==◌, OnErr, IfOk}
 use Rattle.std.specs.Option.{option_map}
 use Rattle.std.proofs.lemmas.Option.{same_Some}
-use Rattle.ely_script.specs.declared.outcome.Outcome.{Outcome}
-use Rattle.ely_script.specs.declared.outcome.Outcome.TheVariants as outcomes
+use Rattle.ely_login.specs.declared.outcome.Outcome.{Outcome}
+use Rattle.ely_login.specs.declared.outcome.Outcome.TheVariants as outcomes
 use Rattle.ely_context.specs.Contexts.{ContextLogin}
 use Rattle.ely_context.specs.Logins.{login_of, with_login, without_login, each_login, AreRising}
 use Rattle.ely_context.proofs.LoginLemmas.{login_of-each_login, login_of-with_login, login_of-without_login, with_login-each_login, with_login-same}
@@ -14,7 +14,7 @@ use Rattle.ely_domain.specs.declared.event.Event.{Event}
 use Rattle.ely_domain.specs.declared.prepared.Prepared.{Prepared}
 use Rattle.ely_domain.specs.Contexts.{pinned, seen_login, seen_live, IsSound, IsSoundAt, IsReply, Answers, AnswersBy}
 use Rattle.ely_cache.specs.declared.caches.RealmCache.{RealmCache}
-use Rattle.ely_script.specs.declared.word.CacheWord.{CacheWord}
+use Rattle.ely_login.specs.declared.word.CacheWord.{CacheWord}
 use Rattle.ely_domain.specs.Caches.{found_in, founds_of}
 use Rattle.ely_domain.specs.Costs.{cost_for, login_cost, RoseBy}
 use Rattle.ely_domain.specs.Identities.{Known}

@@ -6,9 +6,9 @@ use Rattle.std.specs.Prelude.{is_some}
 use Rattle.std.specs.Option.{option_map}
 use Rattle.ely_row.specs.declared.edit.Edit.{Edit}
 use Rattle.ely_row.specs.declared.mech.Mech.{Mech}
-use Rattle.ely_script.specs.declared.outcome.Outcome.{Outcome}
-use Rattle.ely_script.specs.declared.outcome.Outcome.TheVariants as outcomes
-use Rattle.ely_script.specs.declared.word.StateWord.TheVariants as states
+use Rattle.ely_login.specs.declared.outcome.Outcome.{Outcome}
+use Rattle.ely_login.specs.declared.outcome.Outcome.TheVariants as outcomes
+use Rattle.ely_login.specs.declared.word.StateWord.TheVariants as states
 use Rattle.ely_context.specs.Contexts.{ContextLogin}
 use Rattle.ely_context.specs.ContextTable as table
 use Rattle.ely_context.specs.Logins.{login_of, with_login, without_login, each_login}

@@ -8,7 +8,7 @@ use Rattle.ely_context.proofs.LoginLemmas.{login_of-each_login, login_of-with_lo
 use Rattle.ely_context.proofs.StageLemmas.{state-view}
 use Rattle.ely_domain.specs.Contexts.{pinned, seen_login, seen_live}
 use Rattle.ely_digest.specs.Nonces.{Nonces}
-use Rattle.ely_domain.specs.Lines.{serial_at}
+use Rattle.ely_domain.specs.Serials.{serial_at}
 
 -- the state of a login that was found is the state that is seen
 pub state_seen : (logins : List (ℕ × ContextLogin)) (nonces : Nonces) (id : ℕ) (found : Option ContextLogin)

@@ -5,11 +5,11 @@ use Rattle.std.specs.Prelude.{IfSome, is_some}
 use Rattle.std.specs.Option.{option_map}
 use Rattle.ely_row.specs.declared.mech.Mech.{Mech}
 use Rattle.ely_cred.specs.Keys.{Ready, ready_of}
-use Rattle.ely_script.specs.declared.claim.Claim.{Claim}
-use Rattle.ely_script.specs.declared.claim.Evidence.{Evidence}
-use Rattle.ely_script.specs.Outcomes.{is_accepted}
-use Rattle.ely_script.specs.declared.outcome.Outcome.{Outcome}
-use Rattle.ely_script.specs.declared.outcome.Outcome.TheVariants as outcomes
+use Rattle.ely_login.specs.declared.claim.Claim.{Claim}
+use Rattle.ely_login.specs.declared.claim.Evidence.{Evidence}
+use Rattle.ely_login.specs.Outcomes.{is_accepted}
+use Rattle.ely_login.specs.declared.outcome.Outcome.{Outcome}
+use Rattle.ely_login.specs.declared.outcome.Outcome.TheVariants as outcomes
 use Rattle.ely_context.specs.declared.naming.Naming.{Naming}
 use Rattle.ely_context.specs.declared.pin.Pin.{Pin}
 use Rattle.ely_context.specs.declared.stage.Stage.TheVariants.{Fresh, Loading, Named, Checking, Proved, Authorized, Complete, Failed}
@@ -20,12 +20,12 @@ use Rattle.ely_context.specs.Stages.{loading_pin, proved_pin, complete_pin, chec
 use Rattle.ely_perm.specs.Grants.{granted}
 use Rattle.ely_cache.specs.declared.caches.RealmCache.{RealmCache}
 use Rattle.ely_job.specs.Dones.{Done}
-use Rattle.ely_script.specs.declared.word.CacheWord.{CacheWord}
+use Rattle.ely_login.specs.declared.word.CacheWord.{CacheWord}
 use Rattle.ely_table.specs.Touching.{touched_since}
 use Rattle.ely_domain.specs.declared.event.Event.TheVariants as events
 use Rattle.ely_domain.specs.Caches.{Keeps, found_in, lists_of}
 use Rattle.ely_domain.specs.Keeping.{sought}
-use Rattle.ely_script.specs.declared.word.CacheWord.TheVariants as words
+use Rattle.ely_login.specs.declared.word.CacheWord.TheVariants as words
 use Rattle.ely_domain.specs.KeptKeys.{Key, RealmKeys, at_realm, fill_by, has_key, is_hit, list_of, stands_for, used, word_after, word_in}
 use Rattle.ely_domain.specs.declared.naming.Found.{Found}
 use Rattle.ely_domain.specs.declared.prepared.Prepared.{Prepared}

@@ -4,12 +4,12 @@ use Rattle.std.proofs.lemmas.Option.{same_Some}
 use Rattle.ely_digest.specs.declared.nonce_table.SpendFault.{SpendFault}
 use Rattle.ely_digest.specs.declared.nonce_table.SpendFault.TheVariants as faults
 use Rattle.ely_digest.specs.Nonces.{Nonces, last_count, spending}
-use Rattle.ely_script.specs.declared.claim.Evidence.{Evidence}
-use Rattle.ely_script.specs.declared.claim.Evidence.TheVariants as evidences
-use Rattle.ely_script.specs.declared.outcome.Outcome.{Outcome}
-use Rattle.ely_script.specs.declared.outcome.Outcome.TheVariants as outcomes
-use Rattle.ely_script.specs.declared.word.StateWord.{StateWord}
-use Rattle.ely_script.specs.Outcomes.{is_accepted}
+use Rattle.ely_login.specs.declared.claim.Evidence.{Evidence}
+use Rattle.ely_login.specs.declared.claim.Evidence.TheVariants as evidences
+use Rattle.ely_login.specs.declared.outcome.Outcome.{Outcome}
+use Rattle.ely_login.specs.declared.outcome.Outcome.TheVariants as outcomes
+use Rattle.ely_login.specs.declared.word.StateWord.{StateWord}
+use Rattle.ely_login.specs.Outcomes.{is_accepted}
 use Rattle.ely_context.specs.declared.stage.Stage.TheVariants.{Fresh, Loading, Named, Checking, Proved, Authorized, Complete, Failed}
 use Rattle.ely_domain.specs.declared.event.Event.{Event}
 use Rattle.ely_domain.specs.declared.event.Event.TheVariants as events

@@ -4,7 +4,7 @@ use Rattle.std.specs.Prelude.{IfSome, IsSome, option_and_then, nat_eq}
 use Rattle.std.specs.Option.{option_map}
 use Rattle.std.proofs.lemmas.Option.{same_Some}
 use Rattle.ely_row.specs.declared.mech.Mech.{Mech}
-use Rattle.ely_script.specs.declared.claim.Evidence.{Evidence}
+use Rattle.ely_login.specs.declared.claim.Evidence.{Evidence}
 use Rattle.ely_cred.specs.Keys.{Ready, ready_cost, ready_of}
 use Rattle.ely_job.specs.declared.job.Work.{Work}
 use Rattle.ely_job.specs.declared.job.Work.TheVariants as works
@@ -14,9 +14,9 @@ use Rattle.ely_context.specs.declared.pin.Pin.{Pin}
 use Rattle.ely_context.specs.declared.stage.Stage.TheVariants.{Fresh, Loading, Named, Checking, Proved, Authorized, Complete, Failed}
 use Rattle.ely_context.specs.Contexts.{ContextStage, ContextLogin}
 use Rattle.ely_context.specs.Stages.{loading_pin, named_parts, checked_parts, stage_view, state_of}
-use Rattle.ely_script.specs.declared.claim.Claim.{Claim}
-use Rattle.ely_script.specs.declared.word.CacheWord.{CacheWord}
-use Rattle.ely_script.specs.declared.word.StateWord.TheVariants as states
+use Rattle.ely_login.specs.declared.claim.Claim.{Claim}
+use Rattle.ely_login.specs.declared.word.CacheWord.{CacheWord}
+use Rattle.ely_login.specs.declared.word.StateWord.TheVariants as states
 use Rattle.ely_domain.specs.declared.naming.Found.{Found}
 use Rattle.ely_context.specs.Logins.{login_of}
 use Rattle.ely_context.proofs.LoginLemmas.{login_of-each_login}
@@ -32,7 +32,7 @@ use Rattle.ely_domain.specs.Keeping.{found_at}
 use Rattle.ely_domain.specs.KeptKeys.{RealmKeys, is_hit, list_of, word_in}
 use Rattle.ely_domain.specs.Jobs.{check_job, job_at, job_with, job_of, IsBrought, BringsTo, Brings}
 use Rattle.ely_domain.specs.Handing.{name1_job, check1_job, job_by, job_ahead}
-use Rattle.ely_domain.specs.Lines.{carrier}
+use Rattle.ely_domain.specs.Serials.{carrier}
 use Rattle.ely_domain.specs.Steps.{is_evidence_of, shown_refusal}
 use Rattle.ely_domain.specs.Verdicts.{exchange, server_first}
 use Rattle.ely_domain.proofs.Founds.{found_there}

@@ -4,10 +4,10 @@ use Rattle.ely_cache.specs.declared.caches.RealmCache.{RealmCache}
 use Rattle.ely_cache.specs.declared.entry.Entry.{Entry}
 use Rattle.ely_cache.specs.Caches.{EachEntry}
 use Rattle.ely_pipeline.specs.declared.place.Place.{Place}
-use Rattle.ely_script.specs.declared.outcome.Outcome.{Outcome}
-use Rattle.ely_script.specs.declared.word.CacheWord.{CacheWord}
-use Rattle.ely_script.specs.declared.word.CacheWord.TheVariants as words
-use Rattle.ely_script.specs.Outcomes.{is_accepted}
+use Rattle.ely_login.specs.declared.outcome.Outcome.{Outcome}
+use Rattle.ely_login.specs.declared.word.CacheWord.{CacheWord}
+use Rattle.ely_login.specs.declared.word.CacheWord.TheVariants as words
+use Rattle.ely_login.specs.Outcomes.{is_accepted}
 use Rattle.ely_context.specs.declared.stage.Stage.TheVariants.{Loading}
 use Rattle.ely_context.specs.Contexts.{ContextStage, ContextLogin}
 use Rattle.ely_context.specs.Logins.{each_login}

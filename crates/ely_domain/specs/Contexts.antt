@@ -5,10 +5,10 @@ use Rattle.ely_cred.specs.Keys.{chosen}
 use Rattle.ely_config.specs.Configs.{Config}
 use Rattle.ely_digest.specs.Nonces.{Nonces}
 use Rattle.ely_table.specs.Faults.{Tables}
-use Rattle.ely_script.specs.declared.claim.Claim.{Claim}
-use Rattle.ely_script.specs.declared.outcome.Outcome.{Outcome}
-use Rattle.ely_script.specs.declared.outcome.Outcome.TheVariants as outcomes
-use Rattle.ely_script.specs.declared.word.StateWord.{StateWord}
+use Rattle.ely_login.specs.declared.claim.Claim.{Claim}
+use Rattle.ely_login.specs.declared.outcome.Outcome.{Outcome}
+use Rattle.ely_login.specs.declared.outcome.Outcome.TheVariants as outcomes
+use Rattle.ely_login.specs.declared.word.StateWord.{StateWord}
 use Rattle.ely_context.specs.declared.naming.Naming.{Naming}
 use Rattle.ely_context.specs.declared.pin.Pin.{Pin}
 use Rattle.ely_context.specs.declared.stage.Stage.TheVariants.{Fresh, Loading, Named, Checking, Proved, Authorized, Complete, Failed}

@@ -4,9 +4,9 @@ use Rattle.ely_row.specs.declared.mech.Mech.{Mech}
 use Rattle.ely_row.specs.Rows.{Row}
 use Rattle.ely_cred.specs.Keys.{Ready, ready_cost}
 use Rattle.ely_cred.specs.Guesses.{guess_cost}
-use Rattle.ely_script.specs.declared.claim.Evidence.{Evidence}
-use Rattle.ely_script.specs.declared.claim.Evidence.TheVariants as evidences
-use Rattle.ely_script.specs.declared.word.CacheWord.{CacheWord}
+use Rattle.ely_login.specs.declared.claim.Evidence.{Evidence}
+use Rattle.ely_login.specs.declared.claim.Evidence.TheVariants as evidences
+use Rattle.ely_login.specs.declared.word.CacheWord.{CacheWord}
 use Rattle.ely_context.specs.declared.stage.Stage.TheVariants.{Loading, Checking}
 use Rattle.ely_context.specs.Logins.{login_of}
 use Rattle.ely_domain.specs.declared.event.Event.{Event}
@@ -16,7 +16,7 @@ use Rattle.ely_domain.specs.Identities.{Known, ident, key_at}
 use Rattle.ely_domain.specs.KeptKeys.{is_hit}
 use Rattle.ely_domain.specs.Keeping.{Kept, Founds, found_at, kept_after}
 use Rattle.ely_domain.specs.Logins.{KnownStage, KnownLogin, Live}
-use Rattle.ely_domain.specs.Lines.{Taken}
+use Rattle.ely_history.specs.Lines.{Taken}
 use Rattle.ely_domain.specs.Machine.{Machine, known, step}
 use Rattle.ely_domain.specs.Steps.{carried, is_carried}
 
@@ -65,13 +65,6 @@ unfoldable pub step_cost : Given → Machine → Kept → Event → ℕ
 step_cost given m kept (events.Name2 c serial brought) = login_cost (known given m) kept.founds m.live (events.Name2 c serial brought) c
 step_cost given m kept (events.Check2 c serial brought) = login_cost (known given m) kept.founds m.live (events.Check2 c serial brought) c
 step_cost given m kept _ = 0
-
--- what all steps of a history take, behind which these words were shown, from a machine on
-abbrev pub cost_from : Given → Machine → Kept → List Taken → List CacheWord → ℕ
-cost_from given m kept (t ∷ ts) (shown ∷ words) =
-    step_cost given m kept t.event
-    + cost_from given (step given m t.event).1 (kept_after given m kept t.event t.outcome shown) ts words
-cost_from given m kept _ _ = 0
 
 -- a counter rose by this much at most, and never fell
 abbrev pub RoseBy : ℕ → ℕ → ℕ → Type 0

@@ -2,8 +2,8 @@
 use Rattle.std.specs.Prelude.{ℕ, ◌==◌, Bool, false, Option, Some, None}
 use Rattle.ely_row.specs.declared.edit.Edit.{Edit}
 use Rattle.ely_row.specs.declared.edit.Edit.TheVariants as edits
-use Rattle.ely_script.specs.declared.word.StepWord.{StepWord}
-use Rattle.ely_script.specs.declared.word.StepWord.TheVariants as words
+use Rattle.ely_login.specs.declared.word.StepWord.{StepWord}
+use Rattle.ely_login.specs.declared.word.StepWord.TheVariants as words
 use Rattle.ely_domain.specs.declared.event.Event.{Event}
 use Rattle.ely_domain.specs.declared.event.Event.TheVariants as events
 

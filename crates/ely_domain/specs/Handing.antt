@@ -1,20 +1,20 @@
 -- The job that a login will hand out, told from what it is before the step: the code's part of handing one out.
 use Rattle.std.specs.Prelude.{if◌then◌else◌, List, Option, None, is_some, option_and_then, Result, Ok, Err}
 use Rattle.ely_job.specs.declared.job.Work.{Work}
-use Rattle.ely_script.specs.declared.claim.Claim.{Claim}
-use Rattle.ely_script.specs.declared.claim.Evidence.{Evidence}
-use Rattle.ely_script.specs.declared.outcome.Outcome.{Outcome}
+use Rattle.ely_login.specs.declared.claim.Claim.{Claim}
+use Rattle.ely_login.specs.declared.claim.Evidence.{Evidence}
+use Rattle.ely_login.specs.declared.outcome.Outcome.{Outcome}
 use Rattle.ely_context.specs.declared.stage.Stage.TheVariants.{Fresh, Loading, Named, Checking}
 use Rattle.ely_context.specs.Logins.{login_of}
 use Rattle.ely_domain.specs.declared.event.Event.{Event}
 use Rattle.ely_domain.specs.declared.event.Event.TheVariants as events
 use Rattle.ely_digest.specs.Nonces.{Nonces}
-use Rattle.ely_script.specs.declared.word.CacheWord.TheVariants as words
+use Rattle.ely_login.specs.declared.word.CacheWord.TheVariants as words
 use Rattle.ely_domain.specs.Identities.{Known}
 use Rattle.ely_domain.specs.Jobs.{job_at}
 use Rattle.ely_domain.specs.KeptKeys.{RealmKeys, list_of, word_in}
 use Rattle.ely_domain.specs.Keeping.{sought}
-use Rattle.ely_domain.specs.Lines.{carrier}
+use Rattle.ely_domain.specs.Serials.{carrier}
 use Rattle.ely_domain.specs.Logins.{Pinned, KnownStage, KnownLogin, Live}
 use Rattle.ely_domain.specs.Steps.{naming, is_evidence_of, shown_refusal, is_carried}
 

@@ -7,18 +7,18 @@ use Rattle.ely_scram_msg.specs.declared.last.ClientLast.{ClientLast}
 use Rattle.ely_job.specs.declared.job.Work.{Work}
 use Rattle.ely_job.specs.declared.job.Work.TheVariants as jobs
 use Rattle.ely_job.specs.Dones.{Done}
-use Rattle.ely_script.specs.declared.claim.Claim.{Claim}
-use Rattle.ely_script.specs.declared.claim.Claim.TheVariants as claims
-use Rattle.ely_script.specs.declared.claim.Evidence.{Evidence}
-use Rattle.ely_script.specs.declared.claim.Evidence.TheVariants as evidences
-use Rattle.ely_script.specs.declared.outcome.Outcome.{Outcome}
-use Rattle.ely_script.specs.declared.outcome.Outcome.TheVariants as outcomes
+use Rattle.ely_login.specs.declared.claim.Claim.{Claim}
+use Rattle.ely_login.specs.declared.claim.Claim.TheVariants as claims
+use Rattle.ely_login.specs.declared.claim.Evidence.{Evidence}
+use Rattle.ely_login.specs.declared.claim.Evidence.TheVariants as evidences
+use Rattle.ely_login.specs.declared.outcome.Outcome.{Outcome}
+use Rattle.ely_login.specs.declared.outcome.Outcome.TheVariants as outcomes
 use Rattle.ely_context.specs.declared.stage.Stage.TheVariants.{Loading, Checking}
 use Rattle.ely_context.specs.Logins.{login_of}
 use Rattle.ely_domain.specs.declared.event.Event.{Event}
 use Rattle.ely_domain.specs.declared.event.Event.TheVariants as events
 use Rattle.ely_domain.specs.Given.{Given}
-use Rattle.ely_script.specs.declared.word.CacheWord.{CacheWord}
+use Rattle.ely_login.specs.declared.word.CacheWord.{CacheWord}
 use Rattle.ely_domain.specs.Identities.{Known, ident, key_at}
 use Rattle.ely_domain.specs.KeptKeys.{is_hit}
 use Rattle.ely_domain.specs.Keeping.{Kept, Founds, found_at, word_due}

@@ -4,10 +4,10 @@ use Rattle.std.specs.Option.{option_map_or}
 use Rattle.ely_row.specs.declared.edit.Edit.{Edit}
 use Rattle.ely_row.specs.declared.mech.Mech.{Mech}
 use Rattle.ely_table.specs.Touching.{touched_since}
-use Rattle.ely_script.specs.declared.outcome.Outcome.{Outcome}
-use Rattle.ely_script.specs.declared.word.CacheWord.{CacheWord}
-use Rattle.ely_script.specs.declared.word.CacheWord.TheVariants as words
-use Rattle.ely_script.specs.Outcomes.{is_accepted}
+use Rattle.ely_login.specs.declared.outcome.Outcome.{Outcome}
+use Rattle.ely_login.specs.declared.word.CacheWord.{CacheWord}
+use Rattle.ely_login.specs.declared.word.CacheWord.TheVariants as words
+use Rattle.ely_login.specs.Outcomes.{is_accepted}
 use Rattle.ely_context.specs.declared.stage.Stage.TheVariants.{Loading}
 use Rattle.ely_context.specs.Logins.{login_of, with_login, without_login}
 use Rattle.ely_domain.specs.declared.event.Event.{Event}

@@ -6,8 +6,8 @@ use Rattle.ely_row.specs.declared.edit.Edit.{Edit}
 use Rattle.ely_row.specs.declared.mech.Mech.{Mech}
 use Rattle.ely_row.specs.Dependence.{touches}
 use Rattle.ely_cache.specs.Codes.{mech_code}
-use Rattle.ely_script.specs.declared.word.CacheWord.{CacheWord}
-use Rattle.ely_script.specs.declared.word.CacheWord.TheVariants as words
+use Rattle.ely_login.specs.declared.word.CacheWord.{CacheWord}
+use Rattle.ely_login.specs.declared.word.CacheWord.TheVariants as words
 use Rattle.ely_config.specs.declared.realm.RealmConfig.{RealmConfig}
 use Rattle.ely_config.specs.declared.realm.RealmKind.{RealmKind}
 use Rattle.ely_config.specs.declared.realm.RealmKind.TheVariants as kinds

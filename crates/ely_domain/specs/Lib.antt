@@ -3,6 +3,7 @@ pub mod Plans
 pub mod Planning
 pub mod Identities
 pub mod Logins
+pub mod Serials
 pub mod Verdicts
 pub mod Steps
 pub mod Machine
@@ -11,15 +12,7 @@ pub mod Handing
 pub mod KeptKeys
 pub mod Keeping
 pub mod Events
-pub mod Parts
-pub mod PartViews
-pub mod Lines
 pub mod Costs
-pub mod Histories
-pub mod WhoGetsIn
-pub mod Replays
-pub mod Legal
-pub mod Headline
 pub mod Domains
 pub mod Contexts
 pub mod Caches

@@ -1,8 +1,8 @@
 -- The live logins as the machine knows them: what a naming pinned and what a check was shown, and neither rows nor keys.
 use Rattle.std.specs.Prelude.{ℕ, List}
 use Rattle.ely_pipeline.specs.declared.place.Place.{Place}
-use Rattle.ely_script.specs.declared.claim.Claim.{Claim}
-use Rattle.ely_script.specs.declared.claim.Evidence.{Evidence}
+use Rattle.ely_login.specs.declared.claim.Claim.{Claim}
+use Rattle.ely_login.specs.declared.claim.Evidence.{Evidence}
 use Rattle.ely_context.specs.declared.stage.Stage.{Stage}
 use Rattle.ely_context.specs.Stages.{Login}
 use Rattle.ely_digest.specs.Nonces.{Nonces}

@@ -9,9 +9,9 @@ use Rattle.ely_digest_msg.specs.declared.header.DigestAlg.TheVariants as algs
 use Rattle.ely_digest_msg.specs.Challenges.{challenge_of}
 use Rattle.ely_digest.specs.Nonces.{Nonces, last_count, with_nonce}
 use Rattle.ely_table.specs.Faults.{fault}
-use Rattle.ely_script.specs.declared.outcome.Outcome.{Outcome}
-use Rattle.ely_script.specs.declared.outcome.Outcome.TheVariants as outcomes
-use Rattle.ely_script.specs.declared.word.StateWord.TheVariants as states
+use Rattle.ely_login.specs.declared.outcome.Outcome.{Outcome}
+use Rattle.ely_login.specs.declared.outcome.Outcome.TheVariants as outcomes
+use Rattle.ely_login.specs.declared.word.StateWord.TheVariants as states
 use Rattle.ely_context.specs.Stages.{state_of, at_stage}
 use Rattle.ely_context.specs.ContextTable as table
 use Rattle.ely_context.specs.Logins.{login_of, with_login, without_login}

@@ -7,15 +7,15 @@ use Rattle.ely_row.specs.declared.mech.Mech.{Mech}
 use Rattle.ely_row.specs.declared.mech.Mech.TheVariants as mechs
 use Rattle.ely_pipeline.specs.declared.place.Place.{Place}
 use Rattle.ely_row.specs.Rows.{Row}
-use Rattle.ely_script.specs.declared.claim.Claim.{Claim}
-use Rattle.ely_script.specs.declared.claim.Claim.TheVariants as claims
-use Rattle.ely_script.specs.declared.claim.Evidence.{Evidence}
-use Rattle.ely_script.specs.declared.claim.Evidence.TheVariants as evidences
-use Rattle.ely_script.specs.declared.outcome.Outcome.{Outcome}
-use Rattle.ely_script.specs.declared.outcome.Outcome.TheVariants as outcomes
-use Rattle.ely_script.specs.declared.word.StateWord.{StateWord}
-use Rattle.ely_script.specs.declared.word.StateWord.TheVariants as states
-use Rattle.ely_script.specs.Outcomes.{is_accepted}
+use Rattle.ely_login.specs.declared.claim.Claim.{Claim}
+use Rattle.ely_login.specs.declared.claim.Claim.TheVariants as claims
+use Rattle.ely_login.specs.declared.claim.Evidence.{Evidence}
+use Rattle.ely_login.specs.declared.claim.Evidence.TheVariants as evidences
+use Rattle.ely_login.specs.declared.outcome.Outcome.{Outcome}
+use Rattle.ely_login.specs.declared.outcome.Outcome.TheVariants as outcomes
+use Rattle.ely_login.specs.declared.word.StateWord.{StateWord}
+use Rattle.ely_login.specs.declared.word.StateWord.TheVariants as states
+use Rattle.ely_login.specs.Outcomes.{is_accepted}
 use Rattle.ely_cred.specs.Keys.{chosen}
 use Rattle.ely_digest_msg.specs.declared.header.DigestAlg.{DigestAlg}
 use Rattle.ely_digest_msg.specs.declared.header.DigestAlg.TheVariants as algs

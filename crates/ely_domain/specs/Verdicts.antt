@@ -6,12 +6,12 @@ use Rattle.ely_scram_msg.specs.declared.last.ClientLast.{ClientLast}
 use Rattle.ely_digest_msg.specs.declared.reply.DigestReply.{DigestReply}
 use Rattle.ely_scram_msg.specs.ServerTexts.{server_first_text}
 use Rattle.ely_scram.specs.Judgement.{has_binding, has_nonce, has_proof, judgement_of}
-use Rattle.ely_script.specs.declared.claim.Claim.{Claim}
-use Rattle.ely_script.specs.declared.claim.Claim.TheVariants as claims
-use Rattle.ely_script.specs.declared.claim.Evidence.{Evidence}
-use Rattle.ely_script.specs.declared.claim.Evidence.TheVariants as evidences
-use Rattle.ely_script.specs.declared.outcome.Outcome.{Outcome}
-use Rattle.ely_script.specs.declared.outcome.Outcome.TheVariants as outcomes
+use Rattle.ely_login.specs.declared.claim.Claim.{Claim}
+use Rattle.ely_login.specs.declared.claim.Claim.TheVariants as claims
+use Rattle.ely_login.specs.declared.claim.Evidence.{Evidence}
+use Rattle.ely_login.specs.declared.claim.Evidence.TheVariants as evidences
+use Rattle.ely_login.specs.declared.outcome.Outcome.{Outcome}
+use Rattle.ely_login.specs.declared.outcome.Outcome.TheVariants as outcomes
 use Rattle.ely_cred.specs.declared.key.ReadyKey.{ReadyKey}
 use Rattle.ely_cred.specs.declared.key.ReadyKey.TheVariants as keys
 use Rattle.ely_cred.specs.Keys.{Ready}

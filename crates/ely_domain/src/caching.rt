@@ -12,9 +12,9 @@ use ely_base::NoMemory;
 use ely_cache::{Caches, Offered, Peeked};
 use ely_context::Pin;
 use ely_cred::Ready;
+use ely_login::CacheWord;
 use ely_pipeline::Place;
 use ely_row::{Deps, Mech};
-use ely_script::CacheWord;
 use ely_table::Tables;
 use std::alloc::Global;
 

@@ -21,9 +21,9 @@ use ely_digest::{NonceTable, SpendFault};
 use ely_digest_msg::DigestReply;
 use ely_hash::Steps;
 use ely_job::{Done, Verdict, digest_judgement, password_verdict, scram_verdict};
+use ely_login::{Claim, Evidence, Outcome, StateWord};
 use ely_row::Mech;
 use ely_scram_msg::ClientLast;
-use ely_script::{Claim, Evidence, Outcome, StateWord};
 use ely_table::Tables;
 use std::sync::ledger::Ledger;
 

@@ -12,7 +12,7 @@ ghost use Rattle.ely_domain.specs.Keeping.{word_due, word_on, kept_after, kept_o
 ghost use Rattle.ely_domain.specs.KeptKeys.{stands_for};
 ghost use Rattle.ely_cache.specs.Caches.{untouched_in};
 ghost use Rattle.ely_row.specs.declared.edit.Edit.{Edit};
-ghost use Rattle.ely_domain.specs.Lines.{carrier, serial_given, serial_at};
+ghost use Rattle.ely_domain.specs.Serials.{carrier, serial_given, serial_at};
 ghost use Rattle.ely_domain.specs.declared.event.Event.{Event};
 ghost use Rattle.ely_domain.specs.Machine.{change, begin, closed, answered, with_answered, known, step};
 ghost use Rattle.ely_table.specs.Faults.{fault};
@@ -32,8 +32,8 @@ use ely_context::Logins;
 use ely_digest::NonceTable;
 use ely_hash::Steps;
 use ely_job::Job;
+use ely_login::{CacheWord, Outcome, StateWord};
 use ely_row::{Edit, Mech};
-use ely_script::{CacheWord, Outcome, StateWord};
 use ely_table::Tables;
 use std::alloc::Global;
 use std::marker::Model;

@@ -2,13 +2,13 @@
 
 ghost use Rattle.std.specs.Prelude.{◌≡◌};
 ghost use Rattle.ely_domain.specs.Events.{edit_word, word_of};
-ghost use Rattle.ely_domain.specs.Lines.{carrier};
+ghost use Rattle.ely_domain.specs.Serials.{carrier};
 ghost use Rattle.ely_domain.specs.Steps.{carried, is_carried, not_there};
 
 use ely_base::{Bytes, CtxId, Serial, discard};
 use ely_job::{Done, Job};
+use ely_login::{BadLine, CacheWord, Claim, Evidence, Outcome, StateWord, StepWord};
 use ely_row::{Edit, Mech};
-use ely_script::{BadLine, CacheWord, Claim, Evidence, Outcome, StateWord, StepWord};
 
 /// One step of the domain.
 #[derive(Drop)]

@@ -12,10 +12,10 @@ use crate::prepared::Prepared;
 use ely_base::{Bytes, CtxId, Name, NoMemory};
 use ely_config::Config;
 use ely_context::{Context, Pin};
+use ely_login::Outcome;
 use ely_perm::granted;
 use ely_roles::roles_of;
 use ely_row::{Roles, Row};
-use ely_script::Outcome;
 use ely_table::Tables;
 use std::alloc::Global;
 

@@ -29,9 +29,9 @@ use ely_cred::Ready;
 use ely_digest::NonceTable;
 use ely_digest_msg::DigestReply;
 use ely_job::Job;
+use ely_login::{Claim, Evidence, StateWord};
 use ely_row::Mech;
 use ely_scram_msg::{ClientFirst, ClientLast};
-use ely_script::{Claim, Evidence, StateWord};
 use ely_table::Tables;
 use std::alloc::Global;
 

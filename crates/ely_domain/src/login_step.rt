@@ -24,7 +24,7 @@ use ely_config::Config;
 use ely_context::{Context, Logins};
 use ely_digest::NonceTable;
 use ely_hash::Steps;
-use ely_script::{CacheWord, Outcome};
+use ely_login::{CacheWord, Outcome};
 use ely_table::Tables;
 use std::alloc::Global;
 use std::sync::ledger::Ledger;

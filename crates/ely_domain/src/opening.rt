@@ -11,8 +11,8 @@ use ely_config::Config;
 use ely_context::{Context, Logins};
 use ely_digest::NonceTable;
 use ely_digest_msg::{DigestAlg, write_challenge};
+use ely_login::Outcome;
 use ely_row::Mech;
-use ely_script::Outcome;
 use std::alloc::Global;
 
 /// The most logins that are live at once.

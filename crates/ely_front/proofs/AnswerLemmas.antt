@@ -6,20 +6,21 @@ use Rattle.std.proofs.lemmas.Bool.{eqb-true, eq-eqb, false≢true}
 use Rattle.std.specs.Ordering.{nat_cmp}
 use Rattle.std.specs.BTreeMap.{get}
 use Rattle.ely_script.specs.declared.entry.Entry.{Entry}
-use Rattle.ely_script.specs.declared.word.CacheWord.{CacheWord}
+use Rattle.ely_login.specs.declared.word.CacheWord.{CacheWord}
 use Rattle.ely_script.specs.Lines.{ScriptLine}
 use Rattle.ely_script.specs.Text.{line_text, text, text_from, numbered}
-use Rattle.ely_domain.specs.Costs.{RoseBy, cost_from}
+use Rattle.ely_domain.specs.Costs.{RoseBy}
+use Rattle.ely_history.specs.Costs.{cost_from}
 use Rattle.ely_domain.specs.Given.{Given}
-use Rattle.ely_domain.specs.Histories.{machine_after}
+use Rattle.ely_history.specs.Histories.{machine_after}
 use Rattle.ely_domain.specs.Keeping.{Kept, first_kept, kept_after}
-use Rattle.ely_domain.specs.Lines.{Taken, ran, entry_at, entries_at, AreShown}
+use Rattle.ely_history.specs.Lines.{Taken, ran, entry_at, entries_at, AreShown}
 use Rattle.ely_domain.specs.Machine.{Machine, first_machine, step}
-use Rattle.ely_domain.specs.Parts.{actor_of, parts_of}
-use Rattle.ely_domain.specs.Replays.{Told, told_by, entry_of, own_count, steps_told, words_told, kept_told}
-use Rattle.ely_domain.proofs.Opened.{four_parts}
-use Rattle.ely_domain.proofs.Whole.{count_push}
-use Rattle.ely_domain.proofs.Extends.{told_next, machine_next, cost_next, kept_next, history_next}
+use Rattle.ely_history.specs.Parts.{actor_of, parts_of}
+use Rattle.ely_history.specs.Replays.{Told, told_by, entry_of, own_count, steps_told, words_told, kept_told}
+use Rattle.ely_history.proofs.Opened.{four_parts}
+use Rattle.ely_history.proofs.Whole.{count_push}
+use Rattle.ely_history.proofs.Extends.{told_next, machine_next, cost_next, kept_next, history_next}
 use Rattle.ely_front.specs.declared.replay.Replay.{Replay}
 use Rattle.ely_front.specs.Line.{Makes}
 use Rattle.ely_front.specs.Lines.{text_of, cost_of}

@@ -14,8 +14,8 @@ use Rattle.ely_script.specs.Text.{text_from}
 use Rattle.ely_words.specs.declared.words.Mode.{Mode}
 use Rattle.ely_words.specs.declared.words.Mode.TheVariants as modes
 use Rattle.ely_domain.specs.Given.{Given}
-use Rattle.ely_domain.specs.Replays.{entry_of}
-use Rattle.ely_domain.proofs.Extends.{history_on}
+use Rattle.ely_history.specs.Replays.{entry_of}
+use Rattle.ely_history.proofs.Extends.{history_on}
 use Rattle.ely_front.specs.declared.ending.Ending.{Ending}
 use Rattle.ely_front.specs.declared.ending.Ending.TheVariants as ending
 use Rattle.ely_front.specs.Moments.{Moment}

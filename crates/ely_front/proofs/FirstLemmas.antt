@@ -20,7 +20,7 @@ use Rattle.ely_words.specs.declared.words.Mode.{Mode}
 use Rattle.ely_words.specs.declared.words.Mode.TheVariants as modes
 use Rattle.ely_domain.specs.Given.{Given}
 use Rattle.ely_config_text.proofs.Empty.{empty_is_no_json}
-use Rattle.ely_domain.proofs.Extends.{no_history}
+use Rattle.ely_history.proofs.Extends.{no_history}
 use Rattle.ely_front.specs.declared.replay.Replay.{Replay}
 use Rattle.ely_front.specs.declared.ending.Ending.{Ending}
 use Rattle.ely_front.specs.declared.ending.Ending.TheVariants as ending

@@ -10,12 +10,12 @@ use Rattle.ely_io.specs.Reading.{Reader, Next, Counts}
 use Rattle.ely_script.specs.declared.limits.TheConstants.{MAX_LINE_BYTES}
 use Rattle.ely_script.specs.Lines.{ScriptLine}
 use Rattle.ely_words.specs.declared.words.Mode.TheVariants as modes
-use Rattle.ely_domain.specs.Headline.{IsHistoryOf}
-use Rattle.ely_domain.specs.Parts.{actor_of}
+use Rattle.ely_history.specs.Headline.{IsHistoryOf}
+use Rattle.ely_history.specs.Parts.{actor_of}
 use Rattle.ely_domain.specs.Given.{Given}
 use Rattle.ely_front.specs.declared.replay.Replay.{Replay}
 use Rattle.ely_front.specs.declared.ending.Ending.TheVariants as ending
-use Rattle.ely_domain.specs.Replays.{Told}
+use Rattle.ely_history.specs.Replays.{Told}
 use Rattle.ely_front.specs.Moments.{Moment, at}
 use Rattle.ely_front.specs.Lines.{script_of, text_of, cost_of, heard}
 use Rattle.ely_front.specs.Printed.{IsTold, IsPrintedWhole}

@@ -3,16 +3,17 @@ use Rattle.std.proofs.Common.{◌≡◌, ℕ, zero, suc, ◌+◌, ◌-◌, ◌^�
 use Rattle.std.specs.Prelude.{slice_get}
 use Rattle.ely_script.specs.declared.entry.Entry.{Entry}
 use Rattle.ely_script.specs.Lines.{ScriptLine}
-use Rattle.ely_script.specs.Outcomes.{is_accepted}
+use Rattle.ely_login.specs.Outcomes.{is_accepted}
 use Rattle.ely_domain.specs.declared.event.Event.{Event}
-use Rattle.ely_domain.specs.Costs.{RoseBy, step_cost, cost_from}
+use Rattle.ely_domain.specs.Costs.{RoseBy, step_cost}
+use Rattle.ely_history.specs.Costs.{cost_from}
 use Rattle.ely_domain.specs.Domains.{Seen}
 use Rattle.ely_domain.specs.Given.{Given}
 use Rattle.ely_domain.specs.Keeping.{kept_after}
-use Rattle.ely_domain.specs.Lines.{Ran, Taken, taken, carried_after, after_first, run_parts, entries_at}
+use Rattle.ely_history.specs.Lines.{Ran, Taken, taken, carried_after, after_first, run_parts, entries_at}
 use Rattle.ely_domain.specs.Machine.{Machine, step}
-use Rattle.ely_domain.specs.Parts.{Part, parts_of, event_of}
-use Rattle.ely_domain.proofs.Opened.{step_opens, stays_by, quiet, quiet_drop, quiet_first, lone_or_quiet}
+use Rattle.ely_history.specs.Parts.{Part, parts_of, event_of}
+use Rattle.ely_history.proofs.Opened.{step_opens, stays_by, quiet, quiet_drop, quiet_first, lone_or_quiet}
 use Rattle.ely_front.specs.Line.{MakesStep, Makes, StopsIn, HasRoomFor}
 
 -- ---- one step of what is left

@@ -2,8 +2,8 @@
 use Rattle.std.specs.Prelude.{ℕ, ◌≡◌, ◌+◌, List, [], ◌∷◌, ◌++◌, length, codes, Ok, Err}
 use Rattle.std.specs.Fmt.{decimal}
 use Rattle.ely_script.specs.declared.command.LineError.TheVariants.{Bad}
-use Rattle.ely_script.specs.declared.outcome.BadLine.{BadLine}
-use Rattle.ely_script.specs.declared.word.StepWord.TheVariants as steps
+use Rattle.ely_login.specs.declared.outcome.BadLine.{BadLine}
+use Rattle.ely_login.specs.declared.word.StepWord.TheVariants as steps
 use Rattle.ely_script.specs.FaultTexts.{bad_text}
 use Rattle.ely_script.specs.Lines.{ScriptLine}
 use Rattle.ely_script.specs.Words.{step_text}

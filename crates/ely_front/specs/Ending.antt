@@ -14,8 +14,8 @@ use Rattle.ely_config_text.specs.Texts.{fault_text}
 use Rattle.ely_words.specs.declared.words.Mode.{Mode}
 use Rattle.ely_words.specs.declared.words.Mode.TheVariants.{Replay, Check}
 use Rattle.ely_domain.specs.Given.{Given}
-use Rattle.ely_domain.specs.Headline.{IsHistoryOf}
-use Rattle.ely_domain.specs.Replays.{Told}
+use Rattle.ely_history.specs.Headline.{IsHistoryOf}
+use Rattle.ely_history.specs.Replays.{Told}
 use Rattle.ely_front.specs.declared.ending.Ending.{Ending}
 use Rattle.ely_front.specs.declared.ending.Ending.TheVariants.{Done, NoMemory, Words, Config, Read, Write, ConfigLimit, BytesLimit}
 use Rattle.ely_front.specs.Moments.{Moment}

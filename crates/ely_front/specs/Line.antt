@@ -1,17 +1,18 @@
 -- What the code leaves that makes the steps of a line.
 use Rattle.std.specs.Prelude.{ℕ, ◌≡◌, ◌<◌, ◌-◌, ◌^◌, List, [], ◌∷◌, ◌++◌}
 use Rattle.ely_script.specs.declared.entry.Entry.{Entry}
-use Rattle.ely_script.specs.declared.word.CacheWord.{CacheWord}
+use Rattle.ely_login.specs.declared.word.CacheWord.{CacheWord}
 use Rattle.ely_domain.specs.declared.event.Event.{Event}
-use Rattle.ely_domain.specs.Costs.{RoseBy, cost_from}
+use Rattle.ely_domain.specs.Costs.{RoseBy}
+use Rattle.ely_history.specs.Costs.{cost_from}
 use Rattle.ely_domain.specs.Domains.{Seen}
 use Rattle.ely_domain.specs.Given.{Given}
-use Rattle.ely_domain.specs.Histories.{machine_after}
+use Rattle.ely_history.specs.Histories.{machine_after}
 use Rattle.ely_domain.specs.Keeping.{word_due, kept_after}
 use Rattle.ely_domain.specs.KeptKeys.{stands_for}
-use Rattle.ely_domain.specs.Lines.{Taken, Ran, taken, entry_at, entries_at, AreShown, kept_past}
+use Rattle.ely_history.specs.Lines.{Taken, Ran, taken, entry_at, entries_at, AreShown, kept_past}
 use Rattle.ely_domain.specs.Machine.{Machine, step}
-use Rattle.ely_domain.specs.Parts.{Part}
+use Rattle.ely_history.specs.Parts.{Part}
 
 -- one step was made: it is the machine's, and its entry, with a word that stands for the one that is due, is behind the others
 pub record MakesStep (old new : Seen) (actor : ℕ) (event : Event) (before after : List Entry) : Type 0 where

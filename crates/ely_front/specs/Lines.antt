@@ -6,9 +6,9 @@ use Rattle.ely_script.specs.Lines.{ScriptLine, read_of, too_long}
 use Rattle.ely_script.specs.Text.{text}
 use Rattle.ely_domain.specs.Given.{Given}
 use Rattle.ely_domain.specs.Machine.{first_machine}
-use Rattle.ely_domain.specs.Costs.{cost_from}
+use Rattle.ely_history.specs.Costs.{cost_from}
 use Rattle.ely_domain.specs.Keeping.{first_kept}
-use Rattle.ely_domain.specs.Replays.{Told, entry_of, steps_told, words_told}
+use Rattle.ely_history.specs.Replays.{Told, entry_of, steps_told, words_told}
 
 -- what a reader of lines gave, read as a line of the script: nothing at the end
 abbrev pub heard : Read → List ScriptLine

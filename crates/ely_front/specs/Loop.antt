@@ -5,7 +5,7 @@ use Rattle.ely_io.specs.Streams.{Output}
 use Rattle.ely_io.specs.Lines.{lines_of, whole_lines}
 use Rattle.ely_io.specs.Reading.{Reader, Counts}
 use Rattle.ely_domain.specs.Given.{Given}
-use Rattle.ely_domain.specs.Replays.{Told}
+use Rattle.ely_history.specs.Replays.{Told}
 use Rattle.ely_front.specs.declared.check.Check.{Check}
 use Rattle.ely_front.specs.declared.replay.Replay.{Replay}
 use Rattle.ely_front.specs.Moments.{Moment}

@@ -4,8 +4,8 @@ use Rattle.ely_words.specs.declared.words.Mode.{Mode}
 use Rattle.ely_words.specs.declared.words.Mode.TheVariants.{Replay, Check}
 use Rattle.ely_script.specs.Lines.{ScriptLine}
 use Rattle.ely_domain.specs.Given.{Given}
-use Rattle.ely_domain.specs.Headline.{IsHistoryOf}
-use Rattle.ely_domain.specs.Replays.{Told}
+use Rattle.ely_history.specs.Headline.{IsHistoryOf}
+use Rattle.ely_history.specs.Replays.{Told}
 use Rattle.ely_front.specs.FirstLine.{Configures}
 use Rattle.ely_front.specs.Lines.{script_of, text_of}
 use Rattle.ely_front.specs.Check.{bad_lines, check_text}

@@ -5,10 +5,10 @@ use Rattle.std.specs.BTreeMap.{get}
 use Rattle.ely_script.specs.Lines.{ScriptLine}
 use Rattle.ely_domain.specs.Given.{Given}
 use Rattle.ely_domain.specs.Machine.{first_machine}
-use Rattle.ely_domain.specs.Headline.{IsHistoryOf}
-use Rattle.ely_domain.specs.Histories.{machine_after}
+use Rattle.ely_history.specs.Headline.{IsHistoryOf}
+use Rattle.ely_history.specs.Histories.{machine_after}
 use Rattle.ely_domain.specs.Keeping.{first_kept}
-use Rattle.ely_domain.specs.Replays.{Told, steps_told, kept_told, own_count}
+use Rattle.ely_history.specs.Replays.{Told, steps_told, kept_told, own_count}
 use Rattle.ely_front.specs.declared.replay.Replay.{Replay}
 use Rattle.ely_front.specs.Lines.{text_of, cost_of}
 

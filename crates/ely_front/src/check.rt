@@ -9,7 +9,8 @@ ghost use Rattle.ely_front.specs.Ending.{Closes};
 use crate::ending::{Ending, close, stop};
 use ely_base::{NoMemory, Refused, discard, push_number};
 use ely_io::Sink;
-use ely_script::{BadLine, CacheWord, Command, Entry, LineError, Outcome, StepWord, print_step};
+use ely_login::{BadLine, CacheWord, Outcome, StepWord};
+use ely_script::{Command, Entry, LineError, print_step};
 use std::alloc::Global;
 
 /// How many bytes of the printed step stand before the number of its line, where the step and the actor have number 0.

@@ -4,7 +4,7 @@ ghost use Rattle.std.specs.Prelude.{◌≡◌, ◌≤◌, List, [], IfOk, OnOk, 
 ghost use Rattle.ely_script.specs.Lines.{ScriptLine, read_of};
 ghost use Rattle.ely_io.specs.Causes.{Rose, HasCause, AppendsPrefix};
 ghost use Rattle.ely_domain.specs.Given.{Given};
-ghost use Rattle.ely_domain.specs.Replays.{Told};
+ghost use Rattle.ely_history.specs.Replays.{Told};
 ghost use Rattle.ely_front.specs.Moments.{Moment, at};
 ghost use Rattle.ely_front.specs.Lines.{heard};
 ghost use Rattle.ely_front.specs.Replay.{IsAfter, HasRoom, Answers};

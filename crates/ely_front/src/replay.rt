@@ -7,14 +7,15 @@ ghost use Rattle.ely_base.specs.Appended.{Extends};
 ghost use Rattle.ely_script.specs.Lines.{ScriptLine};
 ghost use Rattle.ely_script.specs.Text.{text_from, numbered};
 ghost use Rattle.ely_domain.specs.Given.{Given};
-ghost use Rattle.ely_domain.specs.Replays.{Told};
+ghost use Rattle.ely_history.specs.Replays.{Told};
 ghost use Rattle.ely_front.specs.Replay.{IsAfter, HasRoom, Answers};
 
 use crate::first_line::Setup;
 use crate::line::run_into;
 use ely_base::NoMemory;
-use ely_domain::{Domain, actor_of};
+use ely_domain::Domain;
 use ely_hash::Steps;
+use ely_history::actor_of;
 use ely_script::{Command, Entry, LineError, push_step};
 use std::alloc::Global;
 use std::collections::BTreeMap;

@@ -8,10 +8,9 @@ use ely_config::{Config, Members, RealmConfig, RealmKind};
 use ely_domain::{Domain, Event, JOURNAL_LIMIT};
 use ely_front::run_line;
 use ely_hash::Steps;
+use ely_login::{Claim, Evidence, Outcome, StateWord};
 use ely_pipeline::Rule;
-use ely_script::{
-    Claim, Command, Entry, Evidence, LineError, Outcome, StateWord, push_step, read_line,
-};
+use ely_script::{Command, Entry, LineError, push_step, read_line};
 use std::alloc::Global;
 use std::marker::Brand;
 use std::sync::ledger::{Blank, Ledger};

@@ -1,10 +1,9 @@
 use ely_base::{Bytes, Name, NoMemory, Refused, Serial, Version, cut_at, discard};
 use ely_hash::Tag;
+use ely_login::{CacheWord, Outcome, StateWord, StepWord};
 use ely_pipeline::{PipeFault, Place};
 use ely_row::{Edit, EditFault, Mech, PropFault, Roles};
-use ely_script::{
-    CacheWord, Entry, LineError, Outcome, StateWord, StepWord, Verb, print_step, read_line,
-};
+use ely_script::{Entry, LineError, Verb, print_step, read_line};
 use std::alloc::Global;
 use std::test::Fail;
 

@@ -1,7 +1,7 @@
 -- Names that are read one after another.
 use Rattle.std.proofs.Common.{ℕ, List, ◌++◌}
 use Rattle.std.specs.Prelude.{Result, Ok, Err}
-use Rattle.ely_script.specs.declared.outcome.BadLine.{BadLine}
+use Rattle.ely_login.specs.declared.outcome.BadLine.{BadLine}
 
 -- these names, and behind them those that were read, unless a fault was found
 abbrev pub behind : List (List ℕ) → Result (List (List ℕ)) BadLine → Result (List (List ℕ)) BadLine

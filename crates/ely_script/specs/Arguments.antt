@@ -8,8 +8,8 @@ use Rattle.ely_base.specs.Refused.{◌>>=◌, refused_as}
 use Rattle.ely_base.specs.Texts.{base64_of}
 use Rattle.ely_base.specs.Words.{read_word_of, name_word_of}
 use Rattle.ely_row.specs.Attributes.{is_values}
-use Rattle.ely_script.specs.declared.outcome.BadLine.{BadLine}
-use Rattle.ely_script.specs.declared.outcome.BadLine.TheVariants as bad
+use Rattle.ely_login.specs.declared.outcome.BadLine.{BadLine}
+use Rattle.ely_login.specs.declared.outcome.BadLine.TheVariants as bad
 
 -- the next argument and those behind it
 abbrev pub first_of : List (List ℕ) → Result (List ℕ × List (List ℕ)) BadLine

@@ -8,8 +8,8 @@ use Rattle.ely_row.specs.Creds.{is_kind, cred_of}
 use Rattle.ely_script.specs.declared.command.Verb.{Verb}
 use Rattle.ely_script.specs.declared.command.Verb.TheVariants as verbs
 use Rattle.ely_script.specs.declared.limits.TheConstants.{MAX_SLOT}
-use Rattle.ely_script.specs.declared.outcome.BadLine.{BadLine}
-use Rattle.ely_script.specs.declared.outcome.BadLine.TheVariants as bad
+use Rattle.ely_login.specs.declared.outcome.BadLine.{BadLine}
+use Rattle.ely_login.specs.declared.outcome.BadLine.TheVariants as bad
 use Rattle.ely_script.specs.Arguments.{first_of, some_of, two_of, three_of, five_of, number_at, text_at, coded_at, name_at, names_at, place_at}
 
 -- add REALM NAME

@@ -18,8 +18,8 @@ use Rattle.ely_pipeline.specs.declared.place.PipeFault.TheVariants as pipes
 use Rattle.ely_scram_msg.specs.declared.fault.MsgFault.{MsgFault}
 use Rattle.ely_scram_msg.specs.declared.fault.MsgKind.{MsgKind}
 use Rattle.ely_scram_msg.specs.declared.fault.MsgKind.TheVariants as kinds
-use Rattle.ely_script.specs.declared.outcome.BadLine.{BadLine}
-use Rattle.ely_script.specs.declared.outcome.BadLine.TheVariants as bad
+use Rattle.ely_login.specs.declared.outcome.BadLine.{BadLine}
+use Rattle.ely_login.specs.declared.outcome.BadLine.TheVariants as bad
 
 -- a fault of a credential
 abbrev pub cred_text : CredFault → List ℕ

@@ -1,5 +1,4 @@
 pub mod Words
-pub mod Outcomes
 pub mod Arguments
 pub mod EditLines
 pub mod LoginLines

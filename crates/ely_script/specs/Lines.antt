@@ -7,8 +7,8 @@ use Rattle.ely_script.specs.declared.command.LineError.{LineError}
 use Rattle.ely_script.specs.declared.command.LineError.TheVariants.{Bad}
 use Rattle.ely_script.specs.declared.command.Verb.{Verb}
 use Rattle.ely_script.specs.declared.limits.TheConstants.{MAX_LINE_BYTES}
-use Rattle.ely_script.specs.declared.outcome.BadLine.{BadLine}
-use Rattle.ely_script.specs.declared.outcome.BadLine.TheVariants as bad
+use Rattle.ely_login.specs.declared.outcome.BadLine.{BadLine}
+use Rattle.ely_login.specs.declared.outcome.BadLine.TheVariants as bad
 use Rattle.ely_script.specs.Verbs.{verb_of}
 
 -- a line that was read

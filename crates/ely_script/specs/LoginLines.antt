@@ -14,8 +14,8 @@ use Rattle.ely_scram_msg.specs.ClientLast.{client_last_of}
 use Rattle.ely_script.specs.declared.command.Verb.{Verb}
 use Rattle.ely_script.specs.declared.command.Verb.TheVariants as verbs
 use Rattle.ely_script.specs.declared.limits.TheConstants.{MAX_NONCE_BYTES, MAX_PERMISSION_BYTES}
-use Rattle.ely_script.specs.declared.outcome.BadLine.{BadLine}
-use Rattle.ely_script.specs.declared.outcome.BadLine.TheVariants as bad
+use Rattle.ely_login.specs.declared.outcome.BadLine.{BadLine}
+use Rattle.ely_login.specs.declared.outcome.BadLine.TheVariants as bad
 use Rattle.ely_script.specs.Arguments.{first_of, last_of, one_of, two_of, rest_of, ctx_at, raw_at, base64_at, coded_at}
 use Rattle.ely_script.specs.Words.{mech_text}
 

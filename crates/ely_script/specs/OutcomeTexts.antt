@@ -4,8 +4,8 @@ use Rattle.std.specs.Fmt.{decimal}
 use Rattle.ely_base.specs.Texts.{base64_text}
 use Rattle.ely_base.specs.Words.{word_text}
 use Rattle.ely_pipeline.specs.declared.place.Place.{Place}
-use Rattle.ely_script.specs.declared.outcome.Outcome.{Outcome}
-use Rattle.ely_script.specs.declared.outcome.Outcome.TheVariants as outcomes
+use Rattle.ely_login.specs.declared.outcome.Outcome.{Outcome}
+use Rattle.ely_login.specs.declared.outcome.Outcome.TheVariants as outcomes
 use Rattle.ely_script.specs.FaultTexts.{bad_text, fault_text, pipe_text}
 use Rattle.ely_script.specs.Words.{state_text, mech_text}
 

@@ -3,8 +3,8 @@ use Rattle.std.specs.Prelude.{ℕ, if◌then◌else◌, List, [], ◌∷◌, cod
 use Rattle.std.specs.Str.{bytes_eq}
 use Rattle.ely_script.specs.declared.command.Verb.{Verb}
 use Rattle.ely_script.specs.declared.command.Verb.TheVariants as verbs
-use Rattle.ely_script.specs.declared.outcome.BadLine.{BadLine}
-use Rattle.ely_script.specs.declared.outcome.BadLine.TheVariants as bad
+use Rattle.ely_login.specs.declared.outcome.BadLine.{BadLine}
+use Rattle.ely_login.specs.declared.outcome.BadLine.TheVariants as bad
 use Rattle.ely_script.specs.declared.verbs.VerbWord.{VerbWord}
 use Rattle.ely_script.specs.declared.verbs.VerbWord.TheVariants as words
 use Rattle.ely_script.specs.EditLines.{add_of, remove_of, set_cred_of, drop_cred_of, set_attr_of, drop_attr_of, reload_of}

@@ -6,24 +6,13 @@ ghost use Rattle.ely_base.specs.Refused.{Gives};
 ghost use Rattle.ely_row.specs.Attributes.{is_values};
 ghost use Rattle.ely_script.specs.Arguments.{first_of, last_of, none_of, one_of, two_of, three_of, five_of, some_of, rest_of, number_at, ctx_at, raw_at, base64_at, text_at, coded_at, name_at, names_at, place_at};
 
-use crate::outcome::BadLine;
 use ely_base::{
     Bytes, CtxId, Name, Refused, count_of, cut_at, or_fault, read_base64, read_number, read_word,
 };
+use ely_login::BadLine;
 use ely_row::Values;
 use std::alloc::Global;
 use std::marker::Model;
-
-impl From<BadLine> for Refused<BadLine> {
-    ghost use Rattle.std.specs.Prelude.{◌≡◌};
-    ghost use Rattle.ely_base.specs.declared.refused.Refused.TheVariants.{Fault};
-
-    ghost from_gives = { λ bad refused. refused ≡ Fault bad };
-
-    fn from(bad: BadLine) -> Refused<BadLine> {
-        Refused::Fault(bad)
-    }
-}
 
 /// A word of a line, or all that is left of it.
 #[derive(Drop)]

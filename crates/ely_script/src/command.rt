@@ -2,9 +2,9 @@
 
 ghost use Rattle.std.specs.Prelude.{◌≡◌, IfOk};
 
-use crate::outcome::BadLine;
 use ely_base::{Bytes, CtxId, NoMemory};
 use ely_digest_msg::DigestReply;
+use ely_login::BadLine;
 use ely_plain::PlainMsg;
 use ely_row::{Edit, Mech};
 use ely_scram_msg::{ClientFirst, ClientLast};

@@ -6,8 +6,8 @@ ghost use Rattle.ely_script.specs.EditLines.{add_of, remove_of, cred_at, set_cre
 use crate::args::{Args, Word, read_place};
 use crate::command::Verb;
 use crate::limits::MAX_SLOT;
-use crate::outcome::BadLine;
 use ely_base::{Refused, refused_as};
+use ely_login::BadLine;
 use ely_row::{CredFault, Edit, StoredCred, is_kind};
 use std::alloc::Global;
 

@@ -1,7 +1,6 @@
 //! The entries of a history.
 
-use crate::outcome::Outcome;
-use crate::word::{CacheWord, StepWord};
+use ely_login::{CacheWord, Outcome, StepWord};
 
 /// A step that was made: whose it is, of which of that actor's lines, counted from 1, and what it answered.
 #[derive(Debug, Drop)]

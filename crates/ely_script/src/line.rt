@@ -16,9 +16,9 @@ use crate::logins::{
     read_allows, read_digest_line, read_final, read_first, read_only_ctx, read_open,
     read_plain_line,
 };
-use crate::outcome::BadLine;
 use crate::verbs::{VerbWord, verb_word};
 use ely_base::{Refused, cut_at, read_number, refused_as};
+use ely_login::BadLine;
 use std::alloc::Global;
 
 /// What a verb's arguments ask for.

@@ -7,10 +7,10 @@ ghost use Rattle.ely_script.specs.LoginLines.{mech_at, is_nonce, nonce_at, open_
 use crate::args::{Args, Word};
 use crate::command::Verb;
 use crate::limits::{MAX_NONCE_BYTES, MAX_PERMISSION_BYTES};
-use crate::outcome::BadLine;
 use crate::word::mech_word;
 use ely_base::{Bytes, CtxId, Refused, are_printable_but, refused_as};
 use ely_digest_msg::read_authorization;
+use ely_login::BadLine;
 use ely_plain::{PlainMsg, read_plain};
 use ely_row::Mech;
 use ely_scram_msg::{read_client_first, read_client_last};

@@ -6,6 +6,7 @@ ghost use Rattle.ely_script.specs.Text.{line_text, numbered};
 
 use crate::entry::Entry;
 use crate::print_outcome::push_outcome;
+use crate::word::{cache_word, step_word};
 use ely_base::{Bytes, NoMemory, push_both, push_counted, push_number, push_text};
 use std::alloc::Global;
 
@@ -20,10 +21,10 @@ pub fn push_step(out: &mut Vec<u8>, number: u64, line: u64, entry: &Entry) -> Re
     push_number(out, number)?;
     push_counted(out, b" ", u64::from(entry.actor))?;
     push_counted(out, b" ", line)?;
-    push_both(out, b" ", entry.word.text())?;
+    push_both(out, b" ", step_word(entry.word))?;
     push_text(out, b" ")?;
     push_outcome(out, &entry.outcome)?;
-    push_both(out, entry.cache.text(), b"\n")?;
+    push_both(out, cache_word(entry.cache), b"\n")?;
     Ok(())
 }
 

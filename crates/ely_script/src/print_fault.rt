@@ -4,9 +4,9 @@ ghost use Rattle.std.specs.Prelude.{◌≡◌, ◌++◌, codes, OnOk, OnErr};
 ghost use Rattle.ely_base.specs.Appended.{Extends};
 ghost use Rattle.ely_script.specs.FaultTexts.{cred_text, plain_text, kind_text, scram_text, header_text, bad_text, prop_text, fault_text, pipe_text};
 
-use crate::outcome::BadLine;
 use ely_base::{NoMemory, push_both, push_counted, push_text, push_worded};
 use ely_digest_msg::DigestFault;
+use ely_login::BadLine;
 use ely_pipeline::PipeFault;
 use ely_plain::PlainFault;
 use ely_row::{CredFault, EditFault, PropFault};

@@ -4,11 +4,13 @@ ghost use Rattle.std.specs.Prelude.{◌≡◌, ◌++◌, codes, OnOk, OnErr};
 ghost use Rattle.ely_base.specs.Appended.{Extends};
 ghost use Rattle.ely_script.specs.OutcomeTexts.{challenge_text, verifier_text, roles_text, established_text, outcome_text};
 
-use crate::outcome::Outcome;
 use crate::print_fault::{push_bad, push_fault, push_stage};
-use crate::word::mech_word;
-use ely_base::{Bytes, Name, NoMemory, push_both, push_coded, push_counted, push_text, push_worded};
+use crate::word::{mech_word, state_word};
+use ely_base::{
+    Bytes, Name, NoMemory, push_both, push_coded, push_counted, push_text, push_worded,
+};
 use ely_hash::Tag;
+use ely_login::Outcome;
 use ely_pipeline::Place;
 
 fn push_challenge(out: &mut Vec<u8>, challenge: &Option<Bytes>) -> Result<(), NoMemory>
@@ -94,7 +96,7 @@ pub(crate) fn push_outcome(out: &mut Vec<u8>, outcome: &Outcome) -> Result<(), N
         Outcome::ContextsFull => push_text(out, b"contexts-full 4096"),
         Outcome::NonceUsed => push_text(out, b"nonce-used"),
         Outcome::Pinned(version) => push_counted(out, b"pinned ", version.0),
-        Outcome::State(state) => push_both(out, b"state ", state.text()),
+        Outcome::State(state) => push_both(out, b"state ", state_word(*state)),
         Outcome::Mechanism(mech) => push_both(out, b"mechanism ", mech_word(*mech)),
         Outcome::Authzid => push_text(out, b"authzid"),
         Outcome::Pipe(fault) => push_stage(out, fault),

@@ -1,7 +1,7 @@
 //! The verbs, each by its word.
 
-ghost use Rattle.std.specs.Prelude.{◌≡◌};
-ghost use Rattle.ely_script.specs.Verbs.{verb_word_of};
+ghost use Rattle.std.specs.Prelude.{◌≡◌, map};
+ghost use Rattle.ely_script.specs.Verbs.{named_in, verb_word_of};
 
 /// A verb by its word in a line.
 #[derive(Clone, Copy)]
@@ -25,46 +25,45 @@ pub(crate) enum VerbWord {
     Allows,
 }
 
+/// Each verb by its word.
+const VERBS: [(&[u8], VerbWord); 17] = [
+    (b"add", VerbWord::Add),
+    (b"remove", VerbWord::Remove),
+    (b"set-cred", VerbWord::SetCred),
+    (b"drop-cred", VerbWord::DropCred),
+    (b"set-attr", VerbWord::SetAttr),
+    (b"drop-attr", VerbWord::DropAttr),
+    (b"reload", VerbWord::Reload),
+    (b"open", VerbWord::Open),
+    (b"plain", VerbWord::Plain),
+    (b"first", VerbWord::First),
+    (b"final", VerbWord::Final),
+    (b"digest", VerbWord::Digest),
+    (b"authorize", VerbWord::Authorize),
+    (b"succeed", VerbWord::Succeed),
+    (b"fail", VerbWord::Fail),
+    (b"close", VerbWord::Close),
+    (b"allows", VerbWord::Allows),
+];
+
+/// The verb that a word is in a table.
+fn named_in(table: &[(&[u8], VerbWord)], word: &[u8]) -> Option<VerbWord>
+    ensures { result ≡ named_in (map (λ row. (row.0.now, row.1)) table.now) word.now }
+{
+    let mut rows = table;
+    while let [row, rest @ ..] = rows {
+        if word == row.0 {
+            return Some(row.1);
+        }
+        rows = rest;
+    }
+    None
+}
+
 /// The verb that a word is.
 #[tactic(auto, unfolding(crate::specs::Verbs::verb_word_of))]
 pub(crate) fn verb_word(word: &[u8]) -> Option<VerbWord>
     ensures { result ≡ verb_word_of word.now }
 {
-    if word == b"add".as_slice() {
-        Some(VerbWord::Add)
-    } else if word == b"remove".as_slice() {
-        Some(VerbWord::Remove)
-    } else if word == b"set-cred".as_slice() {
-        Some(VerbWord::SetCred)
-    } else if word == b"drop-cred".as_slice() {
-        Some(VerbWord::DropCred)
-    } else if word == b"set-attr".as_slice() {
-        Some(VerbWord::SetAttr)
-    } else if word == b"drop-attr".as_slice() {
-        Some(VerbWord::DropAttr)
-    } else if word == b"reload".as_slice() {
-        Some(VerbWord::Reload)
-    } else if word == b"open".as_slice() {
-        Some(VerbWord::Open)
-    } else if word == b"plain".as_slice() {
-        Some(VerbWord::Plain)
-    } else if word == b"first".as_slice() {
-        Some(VerbWord::First)
-    } else if word == b"final".as_slice() {
-        Some(VerbWord::Final)
-    } else if word == b"digest".as_slice() {
-        Some(VerbWord::Digest)
-    } else if word == b"authorize".as_slice() {
-        Some(VerbWord::Authorize)
-    } else if word == b"succeed".as_slice() {
-        Some(VerbWord::Succeed)
-    } else if word == b"fail".as_slice() {
-        Some(VerbWord::Fail)
-    } else if word == b"close".as_slice() {
-        Some(VerbWord::Close)
-    } else if word == b"allows".as_slice() {
-        Some(VerbWord::Allows)
-    } else {
-        None
-    }
+    named_in(&VERBS, word)
 }

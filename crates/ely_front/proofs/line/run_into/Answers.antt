@@ -1,6 +1,6 @@
 use Rattle.std.proofs.Common.{◌∙◌, ◌<◌, ◌-◌, ◌^◌, sym}
-use Rattle.ely_domain.specs.PartViews.{seen_part}
-use Rattle.ely_domain.specs.Parts.{parts_of}
+use Rattle.ely_history.specs.PartViews.{seen_part}
+use Rattle.ely_history.specs.Parts.{parts_of}
 use Rattle.ely_front.proofs.RunLemmas.{at_any_rate, no_part, no_event, breaks, ends, leads, not_false, part_here, room_next}
 use Rattle.ely_front.proofs.line.run_into.Goals as goal
 

@@ -1,6 +1,6 @@
 use Rattle.std.proofs.Common.{◌≡◌, ◌-◌, drop, length}
-use Rattle.ely_domain.specs.Lines.{ran, run_parts}
-use Rattle.ely_domain.specs.Parts.{actor_of, parts_of}
+use Rattle.ely_history.specs.Lines.{ran, run_parts}
+use Rattle.ely_history.specs.Parts.{actor_of, parts_of}
 use Rattle.ely_front.specs.Line.{HasRoomFor}
 use Rattle.ely_front.proofs.RunLemmas.{LeadsOn}
 use Rattle.ely_front.proofs.line.run_into.Given as goal

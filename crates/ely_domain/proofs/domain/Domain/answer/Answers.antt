@@ -1,6 +1,6 @@
 use Rattle.std.proofs.Common.{inl, inr, refl}
 use Rattle.ely_context.specs.Logins.{with_login}
-use Rattle.ely_script.specs.declared.word.CacheWord.TheVariants as words
+use Rattle.ely_login.specs.declared.word.CacheWord.TheVariants as words
 use Rattle.ely_domain.specs.declared.event.Event.TheVariants as events
 use Rattle.ely_domain.specs.Machine.{known}
 use Rattle.ely_domain.proofs.Keeps.{all_stays, lists_stay, no_words}

@@ -1,11 +1,11 @@
 use Rattle.std.proofs.Common.{◌≡◌, ◌+◌, sym, refl, ap, subst, ◌∙◌}
-use Rattle.ely_script.specs.declared.outcome.Outcome.TheVariants as outcomes
+use Rattle.ely_login.specs.declared.outcome.Outcome.TheVariants as outcomes
 use Rattle.ely_domain.specs.Contexts.{read_of, seen_live}
 use Rattle.ely_domain.specs.Domains.{Seen}
 use Rattle.ely_domain.specs.Given.{Given}
 use Rattle.ely_domain.specs.Machine.{Stepped, alg_of, challenge, opening_fault, begin}
 use Rattle.ely_context.specs.Logins.{with_login}
-use Rattle.ely_script.specs.declared.word.CacheWord.TheVariants as words
+use Rattle.ely_login.specs.declared.word.CacheWord.TheVariants as words
 use Rattle.ely_domain.specs.Caches.{kept_in}
 use Rattle.ely_domain.specs.Keeping.{kept_opened, with_founds}
 use Rattle.ely_domain.proofs.Founds.{founds_moved}

@@ -1,5 +1,5 @@
 use Rattle.std.proofs.Common.{◌≡◌, ap, subst, ◌∙◌}
-use Rattle.ely_script.specs.declared.outcome.Outcome.TheVariants as outcomes
+use Rattle.ely_login.specs.declared.outcome.Outcome.TheVariants as outcomes
 use Rattle.ely_domain.specs.Caches.{founds_of, kept_in, lists_of}
 use Rattle.ely_domain.specs.Contexts.{read_of}
 use Rattle.ely_domain.specs.Domains.{Seen}

@@ -1,5 +1,5 @@
 use Rattle.std.proofs.Common.{Some, None, ap, ◌∙◌}
-use Rattle.ely_domain.specs.Lines.{serial_at}
+use Rattle.ely_domain.specs.Serials.{serial_at}
 use Rattle.ely_domain.proofs.Seeing.{serial_seen}
 use Rattle.ely_domain.proofs.domain.Domain.serial_at.Goals as goal
 

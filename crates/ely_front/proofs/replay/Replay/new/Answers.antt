@@ -2,7 +2,7 @@ use Rattle.std.proofs.Common.{◌∙◌, ap, arith, rules}
 use Rattle.ely_domain.specs.Domains.{Seen}
 use Rattle.ely_domain.specs.Keeping.{first_kept}
 use Rattle.ely_domain.specs.Machine.{first_machine}
-use Rattle.ely_domain.proofs.Extends.{no_history}
+use Rattle.ely_history.proofs.Extends.{no_history}
 use Rattle.ely_front.proofs.replay.Replay.new.Goals as goal
 
 pub returns : goal.returns

@@ -1,0 +1,11 @@
+pub mod WordLists
+pub mod Judging
+pub mod Tracking
+pub mod Runs
+pub mod GetsIn
+pub mod Turns
+pub mod FileOrder
+pub mod Serving
+pub mod Whole
+pub mod Extends
+pub mod Opened

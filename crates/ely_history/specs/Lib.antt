@@ -1,0 +1,9 @@
+pub mod Parts
+pub mod PartViews
+pub mod Lines
+pub mod Costs
+pub mod Histories
+pub mod WhoGetsIn
+pub mod Replays
+pub mod Legal
+pub mod Headline
