@@ -1,5 +1,5 @@
--- How many HMAC computations the steps of a history take.
-use Rattle.std.specs.Prelude.{ℕ, ◌+◌, ◌≤◌, if◌then◌else◌, List, [], ◌∷◌, Option, Some, None}
+-- How many HMAC computations a step takes.
+use Rattle.std.specs.Prelude.{ℕ, ◌+◌, ◌≤◌, if◌then◌else◌, Option, Some, None}
 use Rattle.ely_row.specs.declared.mech.Mech.{Mech}
 use Rattle.ely_row.specs.Rows.{Row}
 use Rattle.ely_cred.specs.Keys.{Ready, ready_cost}
@@ -14,10 +14,9 @@ use Rattle.ely_domain.specs.declared.event.Event.TheVariants as events
 use Rattle.ely_domain.specs.Given.{Given}
 use Rattle.ely_domain.specs.Identities.{Known, ident, key_at}
 use Rattle.ely_domain.specs.KeptKeys.{is_hit}
-use Rattle.ely_domain.specs.Keeping.{Kept, Founds, found_at, kept_after}
+use Rattle.ely_domain.specs.Keeping.{Kept, Founds, found_at}
 use Rattle.ely_domain.specs.Logins.{KnownStage, KnownLogin, Live}
-use Rattle.ely_history.specs.Lines.{Taken}
-use Rattle.ely_domain.specs.Machine.{Machine, known, step}
+use Rattle.ely_domain.specs.Machine.{Machine, known}
 use Rattle.ely_domain.specs.Steps.{carried, is_carried}
 
 -- what it takes to derive the key of a row, where there is one

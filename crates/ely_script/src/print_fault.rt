@@ -106,7 +106,8 @@ fn push_header_message(out: &mut Vec<u8>, fault: DigestFault) -> Result<(), NoMe
     Ok(())
 }
 
-pub(crate) fn push_bad(out: &mut Vec<u8>, bad: BadLine) -> Result<(), NoMemory>
+/// Writes why a line is no command, behind what is there. Where memory runs out, a prefix of it may be written.
+pub fn push_bad(out: &mut Vec<u8>, bad: BadLine) -> Result<(), NoMemory>
     ensures ok { OnOk result (out.new.items ≡ out.old.items ++ bad_text bad) }
     ensures err { OnErr result (Extends out.old.items out.new.items) }
 {
