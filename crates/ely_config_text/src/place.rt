@@ -1,7 +1,6 @@
 //! The paths of faults that lie between members.
 
 ghost use Rattle.std.specs.Prelude.{◌≡◌, ◌++◌, OnOk, OnErr};
-ghost use Rattle.std.specs.Fmt.{decimal};
 ghost use Rattle.ely_base.specs.Appended.{Extends};
 ghost use Rattle.ely_config_text.specs.Places.{fault_path, is_constant, mapped_path, reference_path, within_realm, wrong_between, wrong_realm};
 

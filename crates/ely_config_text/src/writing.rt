@@ -1,37 +1,12 @@
 //! The line that is written for a fault.
 
 ghost use Rattle.std.specs.Prelude.{◌≡◌, ◌++◌, OnOk, OnErr};
-ghost use Rattle.std.specs.Fmt.{decimal};
 ghost use Rattle.ely_base.specs.Appended.{Extends};
-ghost use Rattle.ely_script.specs.FaultTexts.{prop_text};
 ghost use Rattle.ely_config_text.specs.Texts.{fault_text, wrong_text};
 
 use crate::fault::{TextFault, Wrong};
-use ely_base::{NoMemory, push_number, push_text};
-use ely_row::PropFault;
-
-/// Puts the text and the number of a line behind what is there.
-fn push_line_number(out: &mut Vec<u8>, text: &[u8], line: u32) -> Result<(), NoMemory>
-    ensures ok { OnOk result (out.new.items ≡ out.old.items ++ (text.now ++ decimal line)) }
-    ensures err { OnErr result (Extends out.old.items out.new.items) }
-{
-    push_text(out, text)?;
-    push_number(out, u64::from(line))?;
-    Ok(())
-}
-
-/// Puts the fault of a properties text behind what is there.
-fn push_prop(out: &mut Vec<u8>, fault: PropFault) -> Result<(), NoMemory>
-    ensures ok { OnOk result (out.new.items ≡ out.old.items ++ prop_text fault) }
-    ensures err { OnErr result (Extends out.old.items out.new.items) }
-{
-    match fault {
-        PropFault::BadLine(line) => push_line_number(out, b"bad-line ", line),
-        PropFault::BadHex(line) => push_line_number(out, b"bad-hex ", line),
-        PropFault::Twice(line) => push_line_number(out, b"twice ", line),
-        PropFault::TooMany(line) => push_line_number(out, b"too-many ", line),
-    }
-}
+use ely_base::{NoMemory, push_text};
+use ely_script::push_prop;
 
 /// Puts the word of what is wrong behind what is there.
 fn push_wrong(out: &mut Vec<u8>, wrong: Wrong) -> Result<(), NoMemory>

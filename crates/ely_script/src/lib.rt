@@ -20,5 +20,5 @@ pub use entry::Entry;
 pub use limits::{MAX_LINE_BYTES, MAX_NONCE_BYTES, MAX_PERMISSION_BYTES, MAX_SLOT};
 pub use line::{read_line, too_long};
 pub use print::{print_step, push_step};
-pub use print_fault::push_bad;
+pub use print_fault::{push_bad, push_prop};
 pub use word::mech_word;

@@ -126,7 +126,9 @@ pub fn push_bad(out: &mut Vec<u8>, bad: BadLine) -> Result<(), NoMemory>
     }
 }
 
-fn push_prop(out: &mut Vec<u8>, fault: PropFault) -> Result<(), NoMemory>
+/// Writes the fault of a properties text with its line's number, behind what is there. Where memory runs out, a prefix of it may
+/// be written.
+pub fn push_prop(out: &mut Vec<u8>, fault: PropFault) -> Result<(), NoMemory>
     ensures ok { OnOk result (out.new.items ≡ out.old.items ++ prop_text fault) }
     ensures err { OnErr result (Extends out.old.items out.new.items) }
 {
