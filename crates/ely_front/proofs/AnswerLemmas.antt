@@ -1,16 +1,18 @@
 -- One more line of a replay.
 use Rattle.std.proofs.Common.{◌≡◌, ℕ, ◌+◌, ◌≤◌, Bool, true, false, cond, eqb, List, [], ◌∷◌, ◌++◌, length, map, refl, sym, ap, subst, ◌∙◌, append_assoc, append-nil, add-zero, arith, Some, None, length-append}
 use Rattle.std.specs.Prelude.{unwrap_or}
-use Rattle.std.proofs.lemmas.List.{map-append, length-map}
+use Rattle.std.proofs.lemmas.List.Sums.{count_by-le-length}
+use Rattle.std.specs.Io.KnownBytes.{Appends}
 use Rattle.std.proofs.lemmas.Bool.{eqb-true, eq-eqb, false≢true}
 use Rattle.std.specs.Ordering.{nat_cmp}
 use Rattle.std.specs.BTreeMap.{get}
 use Rattle.ely_script.specs.declared.entry.Entry.{Entry}
 use Rattle.ely_login.specs.declared.word.CacheWord.{CacheWord}
 use Rattle.ely_script.specs.Lines.{ScriptLine}
-use Rattle.ely_script.specs.Text.{line_text, text, text_from, numbered}
+use Rattle.ely_script.specs.Text.{text_from, numbered}
 use Rattle.ely_domain.specs.Costs.{RoseBy}
 use Rattle.ely_history.specs.Costs.{cost_from}
+use Rattle.ely_domain.specs.Domains.{Seen}
 use Rattle.ely_domain.specs.Given.{Given}
 use Rattle.ely_history.specs.Histories.{machine_after}
 use Rattle.ely_domain.specs.Keeping.{Kept, first_kept, kept_after}
@@ -24,23 +26,13 @@ use Rattle.ely_history.proofs.Extends.{told_next, machine_next, cost_next, kept_
 use Rattle.ely_front.specs.declared.replay.Replay.{Replay}
 use Rattle.ely_front.specs.Line.{Makes}
 use Rattle.ely_front.specs.Lines.{text_of, cost_of}
-use Rattle.ely_front.specs.Replay.{IsAfter, Answers, count_of}
+use Rattle.ely_front.specs.Moments.{Moment}
+use Rattle.ely_front.specs.Modes.{HasRoom, Answers, Finishes}
+use Rattle.ely_front.specs.Replayed.{IsPaidTextOf, IsReplayed}
+use Rattle.ely_front.specs.Replay.{IsAfter, HasReplayed, HasSpace, count_of}
+use Rattle.ely_front.specs.Ending.{IsDone}
+use Rattle.ely_front.specs.LawProofs.{text_of-append}
 use Rattle.ely_front.proofs.RunLemmas.{run_short, run_opens}
-
-text_from-append : (xs ys : List Entry) (number : ℕ) → text_from number (xs ++ ys) ≡ text_from number xs ++ text_from (number + length xs) ys
-text_from-append [] ys number = rw add-zero refl
-text_from-append (x ∷ xs) ys number =
-    let more = text_from-append xs ys (number + 1) in
-    let same : (number + 1) + length xs ≡ number + length (x ∷ xs) = omega arith in
-    ap (λ t. line_text number x ++ t) (rw same at more) ∙ sym (append_assoc (line_text number x) (text_from (number + 1) xs) _)
-
--- the text of a history goes on where the history does
-pub text_of-append : (h made : List Told) → text_of (h ++ made) ≡ text_of h ++ text_from (length h + 1) (map entry_of made)
-text_of-append h made =
-    let number : 1 + length (map entry_of h) ≡ length h + 1 = omega (arith, length-map h entry_of) in
-    ap text (map-append entry_of h made)
-    ∙ (text_from-append (map entry_of h) (map entry_of made) 1
-    ∙ ap (λ n. text_of h ++ text_from n (map entry_of made)) number)
 
 -- what a history costs
 pub cost_is : (given : Given) (h : List Told)
@@ -75,6 +67,12 @@ few_opened given m m' line is =
     let opens = run_opens given m None (parts_of line) in
     let same : m'.opened ≡ (ran given m line).1.opened = ap (λ (x : Machine). x.opened) is in
     omega (arith, opens, same, four_parts line)
+
+-- and so it leaves four entries at most
+pub few_entries : (old new : Seen) (actor : ℕ) (line : ScriptLine) (entries : List Entry) (before now : ℕ) → Makes old new actor (ran old.given old.machine line) [] entries before now → length entries ≤ 4
+few_entries old new actor line entries before now makes =
+    let many = as_many old.given old.machine old.kept actor 0 (ran old.given old.machine line).0 makes.shown makes.are_shown in
+    omega (arith, few_steps old.given old.machine line, many.1, ap length makes.entries)
 
 -- A line was run on the domain of a replay, its steps were printed, and it was counted.
 pub record IsAnswered (old new : Replay) (line : ScriptLine) (n : ℕ) (entries : List Entry) (said : List ℕ) (before now : ℕ) : Type 0 where
@@ -163,22 +161,73 @@ module _ (old new : Replay) (line : ScriptLine) (n : ℕ) (entries : List Entry)
         opened = omega (arith, opens, was, more, after.opened);
       }
 
-  paid_here : now + cost_of given h ≤ before + cost_of given (h ++ next)
-  paid_here =
-      let paid : RoseBy before now (cost_from given stood keeping (ran given stood line).0 words) =
-      rw (after.given_is, after.machine_is, after.kept_is) at answered.makes.paid in
-      omega (arith, paid.1, cost_is given h, cost_is given (h ++ next), cost_next given lines h line words are_here)
+  -- what the steps of the line cost
+  abbrev price : ℕ
+  price = cost_from given stood keeping (ran given stood line).0 words
 
-  pub line_answered : (out out' : List ℕ) → out' ≡ out ++ said → Answers given new lines h (line ∷ []) out out' before now
-  line_answered out out' collected = record { made = next; is_after = stands; said = said; text_is = text_here; collected = collected; is_paid = paid_here }
+  paid_here : RoseBy before now price
+  paid_here = rw (after.given_is, after.machine_is, after.kept_is) at answered.makes.paid
 
--- where there was no line nothing is answered
-pub nothing_answered : (r : Replay) (out : List ℕ) (now : ℕ) (given : Given) (lines : List ScriptLine) (h : List Told) → IsAfter given r lines h → Answers given r lines h [] out out now now
-nothing_answered r out now given lines h after = record {
-  made = [];
-  is_after = subst (λ ls. IsAfter given r ls (h ++ [])) (sym (append-nil lines)) (subst (IsAfter given r lines) (sym (append-nil h)) after);
-  said = [];
-  text_is = ap text_of (append-nil h) ∙ sym (append-nil (text_of h));
+  cost_here : cost_of given h + price ≡ cost_of given (h ++ next)
+  cost_here = omega (arith, cost_is given h, cost_is given (h ++ next), cost_next given lines h line words are_here)
+
+-- one more line was answered
+pub line_answered : (old new : Replay) (line : ScriptLine) (n : ℕ) (entries : List Entry) (said : List ℕ) (before now : ℕ) (out out' : List ℕ) → IsAnswered old new line n entries said before now → out' ≡ out ++ said
+    → (given : Given) (lines : List ScriptLine) (told : List ℕ) (cost : ℕ) → HasReplayed given old lines told cost
+    → Answers (HasReplayed given new (lines ++ line ∷ [])) told cost out out' before now
+line_answered old new line n entries said before now out out' answered collected given lines told cost has =
+    let h = has.history in
+    let made = next old new line n entries said before now answered given lines h has.is_after in
+    record {
+      piece = said;
+      paid = price old new line n entries said before now answered given lines h has.is_after;
+      is = record {
+        history = h ++ made;
+        is_after = stands old new line n entries said before now answered given lines h has.is_after;
+        text_is = ap (λ xs. xs ++ said) has.text_is ∙ sym (text_here old new line n entries said before now answered given lines h has.is_after);
+        cost_is = ap (λ c. c + price old new line n entries said before now answered given lines h has.is_after) has.cost_is ∙ cost_here old new line n entries said before now answered given lines h has.is_after;
+      };
+      collected = collected;
+      is_paid = paid_here old new line n entries said before now answered given lines h has.is_after;
+    }
+
+-- few lines leave space for one more
+pub has_space : (r : Replay) → HasRoom HasReplayed r → HasSpace r
+has_space r room =
+    let after = room.is.is_after in
+    record {
+      number = omega (arith, after.number_is, after.few, room.few);
+      opened = omega (arith, after.opened, room.few);
+      counted = λ a. omega (arith, after.counted a, count_by-le-length (λ l. eqb (actor_of l) a) room.lines, room.few);
+    }
+
+-- before the first line nothing was answered
+pub has_begun : (given : Given) (r : Replay) → IsAfter given r [] [] → HasReplayed given r [] [] 0
+has_begun given r after = record { history = []; is_after = after; text_is = refl; cost_is = sym (no_cost given) }
+  where
+    no_cost : (given : Given) → cost_of given [] ≡ 0
+    no_cost given = cost_is given [] ∙ refl
+
+-- a replay prints nothing behind its last line
+pub has_finished : (given : Given) (r : Replay) (lines : List ScriptLine) (said : List ℕ) (cost : ℕ) (out : List ℕ) → HasReplayed given r lines said cost → Finishes (IsPaidTextOf given lines) said cost out out
+has_finished given r lines said cost out has = record {
+  piece = [];
+  is = (has.history, has.is_after.is_history, append-nil said ∙ has.text_is, has.cost_is);
   collected = sym (append-nil out);
-  is_paid = omega (arith, ap (cost_of given) (append-nil h));
+}
+
+-- what is done by a replay is replayed
+pub replayed : (gave : List ℕ) (before after : Moment) → IsDone IsPaidTextOf gave before after → IsReplayed gave before after
+replayed gave before after is = record {
+  given = is.given;
+  first = is.first;
+  lines = is.lines;
+  history = is.is_told.0;
+  at_end = is.at_end_of_input;
+  few = is.few;
+  is_read = is.is_read;
+  configures = is.configures;
+  is_history = is.is_told.1;
+  is_written = subst (Appends before.output.held after.output.held) is.is_told.2 is.is_written;
+  is_paid = omega (arith, is.is_told.3, is.is_paid.1);
 }

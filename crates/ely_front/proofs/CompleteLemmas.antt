@@ -2,21 +2,31 @@
 use Rattle.std.proofs.Common.{◌≡◌, ℕ, ◌<◌, List, [], ◌∷◌, ◌++◌, length, Option, Some, None, Ok, Err, refl, sym, ap, subst, ◌∙◌, ◌⊎◌, inl, inr, ⊎_elim, arith, append_assoc, append-nil, length-append}
 use Rattle.std.proofs.KnownBytes.{Appends-nil}
 use Rattle.std.specs.Io.KnownBytes.{Consumes, Appends, IsAtEnd}
-use Rattle.ely_io.specs.Streams.{Input, Output}
-use Rattle.ely_io.specs.Causes.{Rose, AppendsPrefix}
+use Rattle.ely_io.specs.Streams.{Input}
+use Rattle.ely_io.specs.Causes.{Rose}
 use Rattle.ely_io.specs.Lines.{HasNoLf, lines_of}
 use Rattle.ely_io.specs.Reading.{most}
 use Rattle.ely_io.proofs.LineLaws.{lines_of-line, lines_of-last}
-use Rattle.ely_words.specs.declared.words.Mode.{Mode}
-use Rattle.ely_words.specs.declared.words.Mode.TheVariants as modes
 use Rattle.ely_front.specs.declared.ending.Ending.{Ending}
 use Rattle.ely_front.specs.declared.ending.Ending.TheVariants as ending
 use Rattle.ely_config_text.specs.declared.fault.TextFault.{TextFault}
 use Rattle.ely_domain.specs.Given.{Given}
-use Rattle.ely_front.specs.Moments.{Moment, at}
+use Rattle.ely_front.specs.Moments.{Moment}
 use Rattle.ely_front.specs.FirstLine.{conf, IsFirstLine}
-use Rattle.ely_front.specs.Ending.{Ends, EndsAs, IsDone, Closes, status_of, words_text}
-use Rattle.ely_front.specs.Call.{Runs, HasCauses, RefusesWords, IsComplete, IsWithinLimits}
+use Rattle.ely_front.specs.Modes.{Telling, TellingAll}
+use Rattle.ely_front.specs.Ending.{Ends, EndsAs, IsDone, status_of}
+use Rattle.ely_front.specs.Call.{Runs, HasCauses, IsComplete, IsWithinLimits}
+
+-- status 0 is that of one ending alone
+pub is_done : (e : Ending) → status_of e ≡ 0 → e ≡ ending.Done
+is_done ending.Done h = refl
+is_done ending.NoMemory h = absurd cc
+is_done ending.Words h = absurd cc
+is_done ending.Config h = absurd cc
+is_done ending.Read h = absurd cc
+is_done ending.Write h = absurd cc
+is_done ending.ConfigLimit h = absurd cc
+is_done ending.BytesLimit h = absurd cc
 
 -- the status of a source or a sink that failed is that of one ending alone
 pub is_read : (e : Ending) → status_of e ≡ 4 → e ≡ ending.Read
@@ -76,15 +86,10 @@ all_given bytes gave left took at_end =
 given_or_fault : (given : Given) (fault : TextFault) (line first : List ℕ) → line ≡ first → conf line ≡ Err fault → conf first ≡ Ok given → ⊥
 given_or_fault given fault line first same bad good = absurd (cc)
 
--- a mode that is done met the end of the input
-done_at_end : (mode : Mode) (gave : List ℕ) (before after : Moment) → IsDone mode gave before after → IsAtEnd after.input.left
-done_at_end modes.Replay gave before after is = is.at_end
-done_at_end modes.Check gave before after is = is.at_end
-
-module _ (mode : Mode) (bytes gave : List ℕ) (before after : Moment) (status : ℕ) (within : IsWithinLimits before.input bytes) (took : Consumes (Some bytes) after.input.left gave) (causes : HasCauses before after status)
+module _ (telling : Telling) (closing : TellingAll) (bytes gave : List ℕ) (before after : Moment) (status : ℕ) (within : IsWithinLimits before.input bytes) (took : Consumes (Some bytes) after.input.left gave) (causes : HasCauses before after status)
     (source : Rose before.input.faults after.input.faults → ⊥) (sink : Rose before.output.faults after.output.faults → ⊥) where
-  by_ending : (e : Ending) → status ≡ status_of e → Ends mode gave before after e → ((status ≡ 0) × IsDone mode bytes before after) ⊎ (status ≡ 1)
-  by_ending ending.Done is ends = inl (is, subst (λ xs. IsDone mode xs before after) (all_given bytes gave after.input.left took (done_at_end mode gave before after ends)) ends)
+  by_ending : (e : Ending) → status ≡ status_of e → Ends telling closing gave before after e → ((status ≡ 0) × IsDone closing bytes before after) ⊎ (status ≡ 1)
+  by_ending ending.Done is ends = inl (is, subst (λ xs. IsDone closing xs before after) (all_given bytes gave after.input.left took ends.at_end_of_input) ends)
   by_ending ending.NoMemory is ends = inr is
   by_ending ending.Words is ends = absurd ends
   by_ending ending.Read is ends = absurd (source (causes.read is))
@@ -100,55 +105,23 @@ module _ (mode : Mode) (bytes gave : List ℕ) (before after : Moment) (status :
       let same : says.0 ≡ within.first = first_of_all bytes gave after.input says.0 within.first within.lines took says.1 within.is_read in
       absurd (omega (arith, within.configures.0, says.2, ap length same))
 
-pub complete : (mode : Mode) (before after : Moment) (status : ℕ) → Runs mode before after status → HasCauses before after status → IsComplete mode before after status
-complete mode before after status runs causes bytes within source sink =
+pub complete : (telling : Telling) (closing : TellingAll) (before after : Moment) (status : ℕ) → Runs telling closing before after status → HasCauses before after status → IsComplete closing before after status
+complete telling closing before after status runs causes bytes within source sink =
     let ends = runs.2 in
-    by_ending mode bytes ends.0 before after status within (subst (λ l. Consumes l after.input.left ends.0) within.told ends.1) causes source sink runs.0 runs.1 ends.3
-
--- a check counts nothing, so it ends alike whatever was counted before
-pub any_steps : (input input' : Input) (output output' : Output) (steps steps' : ℕ) (e : Ending) → EndsAs modes.Check (at input output steps) (at input' output' steps) e → EndsAs modes.Check (at input output steps') (at input' output' steps') e
-any_steps input input' output output' steps steps' ending.Done (gave, took, few, is) = (
-  gave,
-  took,
-  few,
-  record {
-    given = is.given;
-    first = is.first;
-    lines = is.lines;
-    at_end = is.at_end;
-    few = is.few;
-    is_read = is.is_read;
-    configures = is.configures;
-    is_written = is.is_written;
-    uncounted = refl;
-  },
-)
-any_steps input input' output output' steps steps' ending.NoMemory ends = ends
-any_steps input input' output output' steps steps' ending.Words ends = ends
-any_steps input input' output output' steps steps' ending.Config ends = ends
-any_steps input input' output output' steps steps' ending.Read ends = ends
-any_steps input input' output output' steps steps' ending.Write ends = ends
-any_steps input input' output output' steps steps' ending.ConfigLimit ends = ends
-any_steps input input' output output' steps steps' ending.BytesLimit ends = ends
+    by_ending telling closing bytes ends.0 before after status within (subst (λ l. Consumes l after.input.left ends.0) within.told ends.1) causes source sink runs.0 runs.1 ends.3
 
 consumes_none : (left : Option (List ℕ)) → Consumes left left []
 consumes_none None = tt
 consumes_none (Some xs) = refl
 
 -- memory ran out before anything was read
-pub nothing_ran : (mode : Mode) (m : Moment) → EndsAs mode m m ending.NoMemory
-nothing_ran mode m = ([], consumes_none m.input.left, omega arith, inl (Appends-nil m.output.held))
+pub nothing_ran : (telling : Telling) (closing : TellingAll) (m : Moment) → EndsAs telling closing m m ending.NoMemory
+nothing_ran telling closing m = ([], consumes_none m.input.left, omega arith, inl (Appends-nil m.output.held))
 
--- that the words are no command was written, or the sink failed
-pub refuses_words : (before after : Moment) (status : ℕ) (result : Ending) → status ≡ status_of result → after.steps ≡ before.steps → Closes before.output after.output words_text ending.Words result → RefusesWords before after status
-refuses_words before after status result is same closes = record {
-  uncounted = same;
-  written = ⊎_elim
-      (λ (h : (result ≡ ending.Words) × Appends before.output.held after.output.held words_text). inl (is ∙ ap status_of h.0, h.1))
-      (λ (h : (result ≡ ending.Write) × AppendsPrefix before.output.held after.output.held words_text). inr (inl (is ∙ ap status_of h.0, h.1)))
-      closes;
-}
-
--- the words name one mode at most
-pub same_mode : (o : Option Mode) (a b : Mode) → o ≡ Some a → o ≡ Some b → a ≡ b
-same_mode o a b is also = cc
+-- with status 0 the bytes that the source gave were done
+pub done_by : (telling : Telling) (closing : TellingAll) (before after : Moment) (status : ℕ) → Runs telling closing before after status → status ≡ 0
+    → (gave : List ℕ) × Consumes before.input.left after.input.left gave × IsDone closing gave before after
+done_by telling closing before after status runs zero =
+    let e = is_done runs.0 (sym runs.1 ∙ zero) in
+    let ends = runs.2 in
+    (ends.0, ends.1, subst (Ends telling closing ends.0 before after) e ends.3)

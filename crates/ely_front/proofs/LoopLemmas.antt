@@ -20,13 +20,13 @@ use Rattle.ely_io.proofs.LineLaws.{lines_of-line, lines_of-last, whole_lines-lin
 use Rattle.ely_io.proofs.Prefixes.{prefix_after}
 use Rattle.ely_script.specs.declared.limits.TheConstants.{MAX_LINE_BYTES}
 use Rattle.ely_script.specs.Lines.{ScriptLine, read_of, of_words, too_long}
-use Rattle.ely_words.specs.declared.words.Mode.{Mode}
 use Rattle.ely_domain.specs.Given.{Given}
 use Rattle.ely_front.specs.declared.ending.Ending.{Ending}
 use Rattle.ely_front.specs.declared.ending.Ending.TheVariants as ending
 use Rattle.ely_front.specs.Moments.{Moment, at}
 use Rattle.ely_front.specs.Lines.{script_of, heard}
-use Rattle.ely_front.specs.Printed.{IsTold, IsPrinted}
+use Rattle.ely_front.specs.Modes.{Telling, TellingAll, TellsInOrder}
+use Rattle.ely_front.specs.Printed.{IsPrinted}
 use Rattle.ely_front.specs.Loop.{HasRead, WritesOn}
 use Rattle.ely_front.specs.Ending.{EndsAs, Closes, IsCutShort, stop_ending, stop_text, bytes_limit_text}
 use Rattle.ely_front.proofs.EndingLemmas.{printed_on, cut, closes_behind, closed, ran_out}
@@ -93,7 +93,7 @@ pub record ReadsAll (start : Moment) (reader new : Reader) (given : Given) (line
   pub empty : new.held ≡ []
 
 -- what holds after a call of the reader, where the lines that were given were told
-module _ (mode : Mode) (start now : Moment) (reader new : Reader) (given : Given) (lines : List (List ℕ)) (said out : List ℕ) (after : Input) (result : Result Read (Refused LineFault)) (s : HasRead start now reader given lines said out) (told : IsTold mode given (script_of lines) said) (n : Next MAX_LINE_BYTES reader new now.input after result) (counts : Counts new) where
+module _ (telling : Telling) (closing : TellingAll) (law : TellsInOrder telling closing) (start now : Moment) (reader new : Reader) (given : Given) (lines : List (List ℕ)) (said out : List ℕ) (after : Input) (result : Result Read (Refused LineFault)) (s : HasRead start now reader given lines said out) (told : telling given (script_of lines) said) (n : Next MAX_LINE_BYTES reader new now.input after result) (counts : Counts new) where
   pub took_on : Consumes start.input.left after.left (s.gave ++ n.0)
   took_on = Consumes-trans start.input.left now.input.left after.left s.gave n.0 s.took n.1
 
@@ -110,45 +110,45 @@ module _ (mode : Mode) (start now : Moment) (reader new : Reader) (given : Given
       subst (λ xs. Closes start.output output xs e end) same (closes_behind start.output now.output output s.written (out ++ text) e end s.is_written closes)
 
   -- memory ran out: what was told was written
-  pub out_of_memory : (output : Output) (steps : ℕ) (end : Ending) → Closes now.output output (out ++ []) ending.NoMemory end → EndsAs mode start (at after output steps) end
+  pub out_of_memory : (output : Output) (steps : ℕ) (end : Ending) → Closes now.output output (out ++ []) ending.NoMemory end → EndsAs telling closing start (at after output steps) end
   out_of_memory output steps end closes =
-      let on = printed_on mode given s.first lines (whole_lines (reader.held ++ n.0)) said s.configures told in
-      let printed : IsPrinted mode (whole_lines (s.gave ++ n.0)) (said ++ on.0) = subst (λ ls. IsPrinted mode ls (said ++ on.0)) (sym (s.whole n.0)) on.1 in
+      let on = printed_on telling closing law given s.first lines (whole_lines (reader.held ++ n.0)) said s.configures told in
+      let printed : IsPrinted telling (whole_lines (s.gave ++ n.0)) (said ++ on.0) = subst (λ ls. IsPrinted telling ls (said ++ on.0)) (sym (s.whole n.0)) on.1 in
       let closed = subst (λ xs. Closes start.output output xs ending.NoMemory end) (append-nil said) (closes_now output [] ending.NoMemory end closes) in
-      (s.gave ++ n.0, took_on, few_on, ran_out mode (s.gave ++ n.0) start (at after output steps) end said on.0 few_on printed closed)
+      (s.gave ++ n.0, took_on, few_on, ran_out telling closing (s.gave ++ n.0) start (at after output steps) end said on.0 few_on printed closed)
 
   -- where no LF was given, the lines that were given whole are those that were answered
-  printed_whole : HasNoLf (reader.held ++ n.0) → IsPrinted mode (whole_lines (s.gave ++ n.0)) said
+  printed_whole : HasNoLf (reader.held ++ n.0) → IsPrinted telling (whole_lines (s.gave ++ n.0)) said
   printed_whole none =
       let is : whole_lines (s.gave ++ n.0) ≡ s.first ∷ lines = s.whole n.0 ∙ ap (λ ls. s.first ∷ ls) (ap (λ ls. lines ++ ls) (whole_lines-none (reader.held ++ n.0) none) ∙ append-nil lines) in
-      subst (λ ls. IsPrinted mode ls said) (sym is) (given, s.configures, told)
+      subst (λ ls. IsPrinted telling ls said) (sym is) (given, s.configures, told)
 
 -- the reader refused
-pub stopped : (mode : Mode) (start now : Moment) (reader new : Reader) (given : Given) (lines : List (List ℕ)) (said out : List ℕ) (after : Input) (output : Output) (refused : Refused LineFault) (end : Ending) (s : HasRead start now reader given lines said out) → IsTold mode given (script_of lines) said
-    → Next MAX_LINE_BYTES reader new now.input after (Err refused) → Counts new → Closes now.output output (out ++ stop_text refused) (stop_ending refused) end → EndsAs mode start (at after output now.steps) end
-stopped mode start now reader new given lines said out after output OutOfMemory end s told n counts closes = out_of_memory mode start now reader new given lines said out after (Err OutOfMemory) s told n counts output now.steps end closes
-stopped mode start now reader new given lines said out after output (Fault ReadFault) end s told n counts closes =
+pub stopped : (telling : Telling) (closing : TellingAll) (law : TellsInOrder telling closing) (start now : Moment) (reader new : Reader) (given : Given) (lines : List (List ℕ)) (said out : List ℕ) (after : Input) (output : Output) (refused : Refused LineFault) (end : Ending) (s : HasRead start now reader given lines said out) → telling given (script_of lines) said
+    → Next MAX_LINE_BYTES reader new now.input after (Err refused) → Counts new → Closes now.output output (out ++ stop_text refused) (stop_ending refused) end → EndsAs telling closing start (at after output now.steps) end
+stopped telling closing law start now reader new given lines said out after output OutOfMemory end s told n counts closes = out_of_memory telling closing law start now reader new given lines said out after (Err OutOfMemory) s told n counts output now.steps end closes
+stopped telling closing law start now reader new given lines said out after output (Fault ReadFault) end s told n counts closes =
     let r : Result Read (Refused LineFault) = Err (Fault ReadFault) in
-    let below : length (s.gave ++ n.0) < most = omega (arith, count_on mode start now reader new given lines said out after r s told n counts, n.3.4) in
-    let printed = subst (IsPrinted mode (whole_lines (s.gave ++ n.0))) (sym (append-nil said)) (printed_whole mode start now reader new given lines said out after r s told n counts n.3.0) in (
+    let below : length (s.gave ++ n.0) < most = omega (arith, count_on telling closing law start now reader new given lines said out after r s told n counts, n.3.4) in
+    let printed = subst (IsPrinted telling (whole_lines (s.gave ++ n.0))) (sym (append-nil said)) (printed_whole telling closing law start now reader new given lines said out after r s told n counts n.3.0) in (
       s.gave ++ n.0,
-      took_on mode start now reader new given lines said out after r s told n counts,
-      few_on mode start now reader new given lines said out after r s told n counts,
-      closed mode (s.gave ++ n.0) start (at after output now.steps) ending.Read end (said ++ []) (λ is. absurd (cc)) (below, printed) (closes_now mode start now reader new given lines said out after r s told n counts output [] ending.Read end closes),
+      took_on telling closing law start now reader new given lines said out after r s told n counts,
+      few_on telling closing law start now reader new given lines said out after r s told n counts,
+      closed telling closing (s.gave ++ n.0) start (at after output now.steps) ending.Read end (said ++ []) (λ is. absurd (cc)) (below, printed) (closes_now telling closing law start now reader new given lines said out after r s told n counts output [] ending.Read end closes),
     )
-stopped mode start now reader new given lines said out after output (Fault SpentFault) end s told n counts closes =
+stopped telling closing law start now reader new given lines said out after output (Fault SpentFault) end s told n counts closes =
     let r : Result Read (Refused LineFault) = Err (Fault SpentFault) in
-    let all : length (s.gave ++ n.0) ≡ most = omega (arith, count_on mode start now reader new given lines said out after r s told n counts, n.3.1) in (
+    let all : length (s.gave ++ n.0) ≡ most = omega (arith, count_on telling closing law start now reader new given lines said out after r s told n counts, n.3.1) in (
       s.gave ++ n.0,
-      took_on mode start now reader new given lines said out after r s told n counts,
-      few_on mode start now reader new given lines said out after r s told n counts,
-      closed mode (s.gave ++ n.0) start (at after output now.steps) ending.BytesLimit end (said ++ bytes_limit_text) (λ is. absurd (cc))
-          (all, said, printed_whole mode start now reader new given lines said out after r s told n counts n.3.0, refl) (closes_now mode start now reader new given lines said out after r s told n counts output bytes_limit_text ending.BytesLimit end closes),
+      took_on telling closing law start now reader new given lines said out after r s told n counts,
+      few_on telling closing law start now reader new given lines said out after r s told n counts,
+      closed telling closing (s.gave ++ n.0) start (at after output now.steps) ending.BytesLimit end (said ++ bytes_limit_text) (λ is. absurd (cc))
+          (all, said, printed_whole telling closing law start now reader new given lines said out after r s told n counts n.3.0, refl) (closes_now telling closing law start now reader new given lines said out after r s told n counts output bytes_limit_text ending.BytesLimit end closes),
     )
 
 -- a line was given and answered, and its text is collected
-module _ (mode : Mode) (start now : Moment) (reader new : Reader) (given : Given) (lines : List (List ℕ)) (said piece out out' : List ℕ) (after : Input) (line : Read) (steps : ℕ) (s : HasRead start now reader given lines said out) (told : IsTold mode given (script_of lines) said) (n : Next MAX_LINE_BYTES reader new now.input after (Ok line)) (counts : Counts new)
-    (told' : IsTold mode given (script_of lines ++ heard line) (said ++ piece)) (collected : out' ≡ out ++ piece) where
+module _ (telling : Telling) (closing : TellingAll) (law : TellsInOrder telling closing) (start now : Moment) (reader new : Reader) (given : Given) (lines : List (List ℕ)) (said piece out out' : List ℕ) (after : Input) (line : Read) (steps : ℕ) (s : HasRead start now reader given lines said out) (told : telling given (script_of lines) said) (n : Next MAX_LINE_BYTES reader new now.input after (Ok line)) (counts : Counts new)
+    (told' : telling given (script_of lines ++ heard line) (said ++ piece)) (collected : out' ≡ out ++ piece) where
   pub text_now : said ++ piece ≡ s.written ++ out'
   text_now = ap (λ xs. xs ++ piece) s.text_is ∙ (append_assoc s.written out piece ∙ ap (λ xs. s.written ++ xs) (sym collected))
 
@@ -193,8 +193,8 @@ module _ (mode : Mode) (start now : Moment) (reader new : Reader) (given : Given
   reads_on output rest more g open_still w = record {
     gave = s.gave ++ n.0;
     first = s.first;
-    took = took_on mode start now reader new given lines said out after (Ok line) s told n counts;
-    count = count_on mode start now reader new given lines said out after (Ok line) s told n counts;
+    took = took_on telling closing law start now reader new given lines said out after (Ok line) s told n counts;
+    count = count_on telling closing law start now reader new given lines said out after (Ok line) s told n counts;
     all = all_on g;
     whole = whole_on g;
     configures = s.configures;
@@ -212,9 +212,9 @@ module _ (mode : Mode) (start now : Moment) (reader new : Reader) (given : Given
       let l = last_by reader new n.0 now.input after line ended n.3 in
       record {
         last = l.lines;
-        took = took_on mode start now reader new given lines said out after (Ok line) s told n counts;
-        few = few_on mode start now reader new given lines said out after (Ok line) s told n counts;
-        below = omega (arith, count_on mode start now reader new given lines said out after (Ok line) s told n counts, l.few);
+        took = took_on telling closing law start now reader new given lines said out after (Ok line) s told n counts;
+        few = few_on telling closing law start now reader new given lines said out after (Ok line) s told n counts;
+        below = omega (arith, count_on telling closing law start now reader new given lines said out after (Ok line) s told n counts, l.few);
         at_end = l.at_end;
         is_read = s.all n.0 ∙ ap (λ ls. s.first ∷ (lines ++ ls)) l.all;
         script = script_on lines l.lines line l.is;
@@ -222,13 +222,13 @@ module _ (mode : Mode) (start now : Moment) (reader new : Reader) (given : Given
       }
 
   -- what is told of the lines whose LF was given is written in part
-  pub cut_inside : (output : Output) → new.ended ≡ false → AppendsPrefix start.output.held output.held (said ++ piece) → IsCutShort mode (s.gave ++ n.0) start (at after output steps)
+  pub cut_inside : (output : Output) → new.ended ≡ false → AppendsPrefix start.output.held output.held (said ++ piece) → IsCutShort telling closing (s.gave ++ n.0) start (at after output steps)
   cut_inside output open_still wrote =
       let g = goes_on_by reader new n.0 now.input after line open_still n.3 in
-      let told_all = subst (λ ls. IsTold mode given ls (said ++ piece)) (script_on lines (g.line ∷ []) line g.is) told' in
-      let on = printed_on mode given s.first (lines ++ g.line ∷ []) (whole_lines (new.held ++ [])) (said ++ piece) s.configures told_all in
+      let told_all = subst (λ ls. telling given ls (said ++ piece)) (script_on lines (g.line ∷ []) line g.is) told' in
+      let on = printed_on telling closing law given s.first (lines ++ g.line ∷ []) (whole_lines (new.held ++ [])) (said ++ piece) s.configures told_all in
       let is = ap whole_lines (sym (append-nil (s.gave ++ n.0))) ∙ whole_on g [] in
-      cut mode (s.gave ++ n.0) start (at after output steps) (said ++ piece) on.0 (few_on mode start now reader new given lines said out after (Ok line) s told n counts) (subst (λ ls. IsPrinted mode ls ((said ++ piece) ++ on.0)) (sym is) on.1) wrote
+      cut telling closing (s.gave ++ n.0) start (at after output steps) (said ++ piece) on.0 (few_on telling closing law start now reader new given lines said out after (Ok line) s told n counts) (subst (λ ls. IsPrinted telling ls ((said ++ piece) ++ on.0)) (sym is) on.1) wrote
 
   -- what the sink has of what is collected, where it failed
   pub wrote_part : (output : Output) → AppendsPrefix now.output.held output.held out' → AppendsPrefix start.output.held output.held (said ++ piece)

@@ -1,21 +1,20 @@
--- The whole program: its words, and what it reads, writes and answers.
-use Rattle.std.specs.Prelude.{ℕ, ◌≡◌, ◌⊎◌, ◌<◌, List, [], ◌∷◌, length, Some}
-use Rattle.std.specs.Io.KnownBytes.{Appends}
+-- A call that runs a mode: what it reads, writes and answers.
+use Rattle.std.specs.Prelude.{ℕ, ◌≡◌, ◌⊎◌, ◌<◌, List, ◌∷◌, length, Some}
 use Rattle.ely_io.specs.Streams.{Input}
-use Rattle.ely_io.specs.Causes.{Rose, AppendsPrefix}
+use Rattle.ely_io.specs.Causes.{Rose}
 use Rattle.ely_io.specs.Lines.{lines_of}
 use Rattle.ely_io.specs.Reading.{most}
-use Rattle.ely_words.specs.declared.words.Mode.{Mode}
 use Rattle.ely_domain.specs.Given.{Given}
 use Rattle.ely_front.specs.declared.ending.Ending.{Ending}
 use Rattle.ely_front.specs.Moments.{Moment}
 use Rattle.ely_front.specs.FirstLine.{Configures}
-use Rattle.ely_front.specs.Ending.{EndsAs, IsDone, status_of, words_text}
+use Rattle.ely_front.specs.Modes.{Telling, TellingAll}
+use Rattle.ely_front.specs.Ending.{EndsAs, IsDone, status_of}
 
 -- the mode ran to an ending, and the status is that of the ending
-abbrev pub Runs : Mode → Moment → Moment → ℕ → Type 0
-Runs mode before after status =
-    (ending : Ending) × (status ≡ status_of ending) × EndsAs mode before after ending
+abbrev pub Runs : Telling → TellingAll → Moment → Moment → ℕ → Type 0
+Runs told at_end before after status =
+    (ending : Ending) × (status ≡ status_of ending) × EndsAs told at_end before after ending
 
 -- a failure of the source or of the sink is answered only where that one failed
 pub record HasCauses (before after : Moment) (status : ℕ) : Type 0 where
@@ -33,16 +32,8 @@ pub record IsWithinLimits (input : Input) (bytes : List ℕ) : Type 0 where
   pub configures : Configures first given
 
 -- Where neither the source nor the sink failed, the mode wrote the whole text of such bytes, or memory ran out.
-abbrev pub IsComplete : Mode → Moment → Moment → ℕ → Type 0
-IsComplete mode before after status = (bytes : List ℕ) → IsWithinLimits before.input bytes
+abbrev pub IsComplete : TellingAll → Moment → Moment → ℕ → Type 0
+IsComplete at_end before after status = (bytes : List ℕ) → IsWithinLimits before.input bytes
     → (Rose before.input.faults after.input.faults → ⊥)
     → (Rose before.output.faults after.output.faults → ⊥)
-    → ((status ≡ 0) × IsDone mode bytes before after) ⊎ (status ≡ 1)
-
--- that the words are no command was written, or the sink failed, or memory ran out and nothing was written; nothing was
--- counted
-pub record RefusesWords (before after : Moment) (status : ℕ) : Type 0 where
-  pub uncounted : after.steps ≡ before.steps
-  pub written : ((status ≡ 2) × Appends before.output.held after.output.held words_text)
-      ⊎ (((status ≡ 5) × AppendsPrefix before.output.held after.output.held words_text)
-      ⊎ ((status ≡ 1) × Appends before.output.held after.output.held []))
+    → ((status ≡ 0) × IsDone at_end bytes before after) ⊎ (status ≡ 1)

@@ -2,9 +2,13 @@ pub mod Moments
 pub mod FirstLine
 pub mod Line
 pub mod Lines
-pub mod Check
+pub mod Modes
 pub mod Printed
 pub mod Ending
-pub mod Replay
 pub mod Loop
 pub mod Call
+pub mod Output
+pub mod Replayed
+pub mod Replay
+pub mod Check
+pub mod LawProofs

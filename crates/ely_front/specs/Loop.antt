@@ -1,18 +1,18 @@
 -- A mode that is under way.
-use Rattle.std.specs.Prelude.{ℕ, Bool, false, ◌≡◌, ◌+◌, ◌≤◌, List, [], ◌∷◌, ◌++◌, length, None}
+use Rattle.std.specs.Prelude.{ℕ, Bool, false, ◌≡◌, ◌⊎◌, ◌≤◌, List, [], ◌∷◌, ◌++◌, length, None}
 use Rattle.std.specs.Io.KnownBytes.{Consumes, Appends}
 use Rattle.ely_io.specs.Streams.{Output}
 use Rattle.ely_io.specs.Lines.{lines_of, whole_lines}
 use Rattle.ely_io.specs.Reading.{Reader, Counts}
+use Rattle.ely_domain.specs.Costs.{RoseBy}
 use Rattle.ely_domain.specs.Given.{Given}
-use Rattle.ely_history.specs.Replays.{Told}
-use Rattle.ely_front.specs.declared.check.Check.{Check}
-use Rattle.ely_front.specs.declared.replay.Replay.{Replay}
+use Rattle.ely_front.specs.declared.ending.Ending.{Ending}
+use Rattle.ely_front.specs.declared.ending.Ending.TheVariants.{Done, NoMemory}
 use Rattle.ely_front.specs.Moments.{Moment}
 use Rattle.ely_front.specs.FirstLine.{Configures}
-use Rattle.ely_front.specs.Lines.{script_of, text_of, cost_of}
-use Rattle.ely_front.specs.Check.{bad_lines, HasCounted}
-use Rattle.ely_front.specs.Replay.{IsAfter}
+use Rattle.ely_front.specs.Lines.{script_of}
+use Rattle.ely_front.specs.Modes.{Standing, Finishes}
+use Rattle.ely_front.specs.Ending.{Closes}
 
 -- Since the start the source gave the first line, which is the configuration, these lines, each with its LF, and what the
 -- reader holds. This text was written, but for what is collected.
@@ -31,22 +31,15 @@ pub record HasRead (start now : Moment) (reader : Reader) (given : Given) (lines
   pub mark : reader.mark ≡ None
   pub counts : Counts reader
 
--- The lines that were given were answered: the text is that of a history of the lines, and the counter of HMAC computations
--- rose by its cost at most.
-pub record IsUnderWay (start now : Moment) (reader : Reader) (replay : Replay) (out : List ℕ) : Type 0 where
+-- the lines that were given were answered, and the counter of HMAC computations rose by their cost at most
+pub record IsUnderWay {M : Type 0} (stands : Standing M) (start now : Moment) (reader : Reader) (mode : M) (out : List ℕ) : Type 0 where
   pub given : Given
   pub lines : List (List ℕ)
-  pub history : List Told
-  pub has_read : HasRead start now reader given lines (text_of history) out
-  pub is_after : IsAfter given replay (script_of lines) history
-  pub is_paid : now.steps ≤ start.steps + cost_of given history
-
--- the lines that were given were checked and counted
-pub record IsChecking (start now : Moment) (reader : Reader) (check : Check) (out : List ℕ) : Type 0 where
-  pub given : Given
-  pub lines : List (List ℕ)
-  pub has_read : HasRead start now reader given lines (bad_lines 1 (script_of lines)) out
-  pub has_counted : HasCounted check (script_of lines)
+  pub said : List ℕ
+  pub cost : ℕ
+  pub has_read : HasRead start now reader given lines said out
+  pub stood : stands given mode (script_of lines) said cost
+  pub is_paid : RoseBy start.steps now.steps cost
 
 -- a prefix of what was collected was written, and the rest is kept: nothing where no whole line is held
 pub record WritesOn (before after : Output) (old new : List ℕ) (more : Bool) : Type 0 where
@@ -54,3 +47,10 @@ pub record WritesOn (before after : Output) (old new : List ℕ) (more : Bool) :
   pub appended : Appends before.held after.held written
   pub kept : old ≡ written ++ new
   pub all : more ≡ false → new ≡ []
+
+-- What is printed at the end was put behind what was collected, and that was written; or what was collected was written, and
+-- memory ran out; or the sink failed.
+abbrev pub EndsWith : (List ℕ → ℕ → Type 0) → List ℕ → ℕ → List ℕ → Output → Output → Ending → Type 0
+EndsWith at_end said cost out before after result =
+    ((whole : List ℕ) × Finishes at_end said cost out whole × Closes before after whole Done result)
+    ⊎ Closes before after out NoMemory result

@@ -1,5 +1,5 @@
 -- What a replay stands for once some lines of its script were answered.
-use Rattle.std.specs.Prelude.{ℕ, ◌≡◌, ◌+◌, ◌*◌, ◌<◌, ◌≤◌, ◌^◌, List, ◌++◌, length, unwrap_or}
+use Rattle.std.specs.Prelude.{ℕ, ◌≡◌, ◌+◌, ◌*◌, ◌<◌, ◌≤◌, ◌^◌, List, length, unwrap_or}
 use Rattle.std.specs.Ordering.{nat_cmp}
 use Rattle.std.specs.BTreeMap.{get}
 use Rattle.ely_script.specs.Lines.{ScriptLine}
@@ -27,19 +27,15 @@ pub record IsAfter (given : Given) (r : Replay) (lines : List ScriptLine) (h : L
   pub few : length h ≤ 4 * length lines
   pub opened : r.domain.machine.opened ≤ 4 * length lines
 
+-- it has answered these lines: the text is that of their history, and the cost too
+pub record HasReplayed (given : Given) (r : Replay) (lines : List ScriptLine) (said : List ℕ) (cost : ℕ) : Type 0 where
+  pub history : List Told
+  pub is_after : IsAfter given r lines history
+  pub text_is : said ≡ text_of history
+  pub cost_is : cost ≡ cost_of given history
+
 -- its counters have room for another line
-pub record HasRoom (r : Replay) : Type 0 where
+pub record HasSpace (r : Replay) : Type 0 where
   pub number : r.number < 2 ^ 62
   pub opened : r.domain.machine.opened < 2 ^ 62
   pub counted : (actor : ℕ) → count_of r actor < 2 ^ 62
-
--- Behind this history of these lines, more of them were answered, their text was put behind what was collected, and the
--- counter rose by their cost at most.
-pub record Answers (given : Given) (r : Replay) (lines : List ScriptLine) (h : List Told) (more : List ScriptLine)
-    (old new : List ℕ) (before after : ℕ) : Type 0 where
-  pub made : List Told
-  pub is_after : IsAfter given r (lines ++ more) (h ++ made)
-  pub said : List ℕ
-  pub text_is : text_of (h ++ made) ≡ text_of h ++ said
-  pub collected : new ≡ old ++ said
-  pub is_paid : after + cost_of given h ≤ before + cost_of given (h ++ made)

@@ -1,20 +1,22 @@
-//! A script that is checked line by line: each line is read, none is run, and those that can't be read are told.
+//! The mode `check`: each line of a script is read, none is run, and those that can't be read are told.
 
-ghost use Rattle.std.specs.Prelude.{◌≡◌, ◌⊎◌, ◌+◌, ◌-◌, ◌<◌, ◌^◌, List, [], ◌∷◌, ◌++◌, OnOk, OnErr};
+ghost use Rattle.std.specs.Prelude.{◌≡◌, ◌+◌, ◌-◌, ◌^◌, ◌++◌, ◌<◌, ℕ, [], ◌∷◌, OnOk, OnErr};
 ghost use Rattle.ely_base.specs.Appended.{Extends};
-ghost use Rattle.ely_io.specs.Causes.{Rose};
-ghost use Rattle.ely_front.specs.Check.{bad_line, line_told, count_bad, total_text, HasCounted};
-ghost use Rattle.ely_front.specs.Ending.{Closes};
+ghost use Rattle.ely_front.specs.Moments.{at};
+ghost use Rattle.ely_front.specs.Check.{bad_line, line_told, count_bad, total_text, TellsBad, TellsTotal, Checks};
+ghost use Rattle.ely_front.specs.Call.{Runs, HasCauses, IsComplete};
 
-use crate::ending::{Ending, close, stop};
-use ely_base::{NoMemory, Refused, discard, push_number};
-use ely_io::Sink;
-use ely_login::{BadLine, CacheWord, Outcome, StepWord};
-use ely_script::{Command, Entry, LineError, print_step};
+use crate::call::run_mode;
+use crate::first_line::Setup;
+use crate::mode::Mode;
+use ely_base::{NoMemory, discard, push_number, push_text};
+use ely_hash::Steps;
+use ely_io::{Sink, Source};
+use ely_login::BadLine;
+use ely_script::{Command, LineError, push_bad};
 use std::alloc::Global;
-
-/// How many bytes of the printed step stand before the number of its line, where the step and the actor have number 0.
-const BEFORE_LINE: usize = 4;
+use std::marker::Brand;
+use std::sync::ledger::{Blank, Ledger};
 
 /// How many lines behind the first there were, and how many of them can't be read.
 #[derive(Clone, Copy)]
@@ -23,33 +25,21 @@ pub(crate) struct Check {
     bad: u64,
 }
 
-/// Writes that the line with this number can't be read, behind what is collected.
-fn push_bad_line(
-    alloc: Global,
-    out: &mut Vec<u8>,
-    number: u64,
-    bad: BadLine,
-) -> Result<(), NoMemory>
+/// Writes that the line with this number can't be read, behind what is collected. After want of memory a
+/// prefix of it may be there.
+fn push_bad_line(out: &mut Vec<u8>, number: u64, bad: BadLine) -> Result<(), NoMemory>
     ensures ok { OnOk result (out.new.items ≡ out.old.items ++ bad_line number bad) }
-    ensures err { OnErr result (out.new.items ≡ out.old.items) }
+    ensures err { OnErr result (Extends out.old.items out.new.items) }
 {
-    let entry = Entry {
-        actor: 0,
-        line: number,
-        word: StepWord::BadLine,
-        outcome: Outcome::Bad(bad),
-        cache: CacheWord::None,
-    };
-    let printed = print_step(alloc, 0, &entry);
-    discard(entry);
-    let printed = printed?;
-    let (_, told) = printed.bytes().split_at(BEFORE_LINE);
-    out.extend_from_slice(told)?;
+    push_number(out, number)?;
+    push_text(out, b" bad-line ")?;
+    push_bad(out, bad)?;
+    push_text(out, b"\n")?;
     Ok(())
 }
 
-/// Writes how many lines there were, and how many of them can't be read, behind what is collected. After want of memory a
-/// prefix of it may be there.
+/// Writes how many lines there were, and how many of them can't be read, behind what is collected. After want
+/// of memory a prefix of it may be there.
 fn push_total(out: &mut Vec<u8>, lines: u64, bad: u64) -> Result<(), NoMemory>
     ensures ok { OnOk result (out.new.items ≡ out.old.items ++ total_text lines bad) }
     ensures err { OnErr result (Extends out.old.items out.new.items) }
@@ -63,17 +53,10 @@ fn push_total(out: &mut Vec<u8>, lines: u64, bad: u64) -> Result<(), NoMemory>
 }
 
 impl Check {
-    /// A check before the first line behind the configuration.
-    pub(crate) fn new() -> Check
-        ensures { HasCounted result [] }
-    {
-        Check { lines: 0, bad: 0 }
-    }
-
-    /// Counts the next line, and puts what is told of it behind what is collected. After want of memory nothing is put there.
-    pub(crate) fn answer(
+    /// Counts the next line, and puts what is told of it behind what is collected. After want of memory nothing
+    /// is put there.
+    fn count(
         &mut self,
-        alloc: Global,
         line: &Result<Command, LineError>,
         out: &mut Vec<u8>,
     ) -> Result<(), NoMemory>
@@ -92,31 +75,109 @@ impl Check {
                 Ok(())
             }
             Err(LineError::Bad { bad, .. }) => {
-                push_bad_line(alloc, out, number, *bad)?;
-                self.lines = number;
-                self.bad += 1;
-                Ok(())
+                let held = out.len();
+                match push_bad_line(out, number, *bad) {
+                    Ok(()) => {
+                        self.lines = number;
+                        self.bad += 1;
+                        Ok(())
+                    }
+                    Err(error) => {
+                        out.truncate(held);
+                        Err(error)
+                    }
+                }
             }
         }
+    }
+}
+
+impl Mode for Check {
+    ghost use Rattle.ely_front.specs.Check.{HasChecked};
+    ghost use Rattle.ely_front.specs.LawProofs.{check_in_order};
+
+    ghost told = { TellsBad };
+
+    ghost at_end = { TellsTotal };
+
+    ghost stands = { HasChecked };
+
+    ghost tells = { λ given check lines said cost is. is.text_is };
+
+    ghost in_order = { check_in_order };
+
+    fn begin(_alloc: Global, setup: Setup) -> Result<Check, NoMemory> {
+        discard(setup);
+        Ok(Check { lines: 0, bad: 0 })
     }
 
-    /// Writes what is collected and then the total, or only what is collected where memory ran out.
-    pub(crate) fn close<K: Sink>(self, sink: &mut K, out: Vec<u8>) -> Ending
-        ensures ends { Closes (K.seen sink.old) (K.seen sink.new)
-            (out.items ++ total_text self.lines self.bad) Ending.Done result
-            ⊎ Closes (K.seen sink.old) (K.seen sink.new)
-            (out.items ++ []) Ending.NoMemory result }
-        ensures write { result ≡ Ending.Write
-            → Rose (K.seen sink.old).faults (K.seen sink.new).faults }
-    {
-        let mut out = out;
+    /// Counts the next line, and tells it where it can't be read.
+    fn answer<L: Ledger>(
+        &mut self,
+        _alloc: Global,
+        line: &Result<Command, LineError>,
+        out: &mut Vec<u8>,
+        _steps: &mut Steps<L>,
+    ) -> Result<(), NoMemory> {
+        self.count(line, out)?;
+        Ok(())
+    }
+
+    /// Tells the total.
+    fn finish(&mut self, _alloc: Global, out: &mut Vec<u8>) -> Result<(), NoMemory> {
         let held = out.len();
-        match push_total(&mut out, self.lines, self.bad) {
-            Ok(()) => close(sink, &out, Ending::Done),
-            Err(_) => {
+        match push_total(out, self.lines, self.bad) {
+            Ok(()) => Ok(()),
+            Err(error) => {
                 out.truncate(held);
-                stop(sink, &out, Refused::NoMemory)
+                Err(error)
             }
         }
     }
+}
+
+/// Checks with a counter of its own, which takes no bytes.
+fn check_counted<S: Source, K: Sink, L: Ledger>(
+    alloc: Global,
+    source: &mut S,
+    sink: &mut K,
+    blank: Blank,
+) -> u8
+    requires name { blank.name ≡ L.name }
+    requires parts { blank.parts ≡ L.parts }
+    requires some { 0 < blank.parts }
+    ensures history { (steps : ℕ) → Runs TellsBad TellsTotal
+        (at (S.seen source.old) (K.seen sink.old) steps)
+        (at (S.seen source.new) (K.seen sink.new) steps) result }
+    ensures causes { (steps : ℕ) → HasCauses
+        (at (S.seen source.old) (K.seen sink.old) steps)
+        (at (S.seen source.new) (K.seen sink.new) steps) result }
+    ensures complete { (steps : ℕ) → IsComplete TellsTotal
+        (at (S.seen source.old) (K.seen sink.old) steps)
+        (at (S.seen source.new) (K.seen sink.new) steps) result }
+{
+    let mut steps = Steps::<L>::of(blank);
+    run_mode::<Check, S, K, L>(alloc, source, sink, &mut steps)
+}
+
+/// Reads the lines of the script that the source gives and runs none of them, and tells those that can't be
+/// read, each before it reads the next. Gives the exit status: 0 where the input was read to its end, and
+/// each line that can't be read and how many there are was written; 1 for want of memory; 3 where the first
+/// line is no configuration; 4 where the source failed; 5 where the sink failed; 6 at a limit. It is handed
+/// no counter, so whatever was counted before it is counted after it.
+pub fn check_call<S: Source, K: Sink>(alloc: Global, source: &mut S, sink: &mut K) -> u8
+    ensures history { (steps : ℕ) → Runs TellsBad TellsTotal
+        (at (S.seen source.old) (K.seen sink.old) steps)
+        (at (S.seen source.new) (K.seen sink.new) steps) result }
+    ensures checked { (steps : ℕ) → result ≡ 0 → Checks
+        (at (S.seen source.old) (K.seen sink.old) steps)
+        (at (S.seen source.new) (K.seen sink.new) steps) }
+    ensures causes { (steps : ℕ) → HasCauses
+        (at (S.seen source.old) (K.seen sink.old) steps)
+        (at (S.seen source.new) (K.seen sink.new) steps) result }
+    ensures complete { (steps : ℕ) → IsComplete TellsTotal
+        (at (S.seen source.old) (K.seen sink.old) steps)
+        (at (S.seen source.new) (K.seen sink.new) steps) result }
+{
+    check_counted::<S, K, Brand>(alloc, source, sink, Blank::new(1))
 }

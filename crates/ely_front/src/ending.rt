@@ -7,8 +7,6 @@ ghost use Rattle.ely_front.specs.Ending.{status_of, stop_ending, stop_text, Clos
 use ely_base::Refused;
 use ely_io::{LineFault, Sink, write_all};
 
-pub(crate) const WORDS_TEXT: [u8; 6] = *b"words\n";
-
 pub(crate) const CONFIG_LIMIT_TEXT: [u8; 21] = *b"limit config 1048576\n";
 
 /// How a mode ends.

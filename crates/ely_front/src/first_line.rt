@@ -3,17 +3,19 @@
 ghost use Rattle.std.specs.Prelude.{◌≡◌, ◌≤◌, ℕ, IfOk, OnOk, IfErr, Err};
 ghost use Rattle.std.specs.Str.{bytes_eq};
 ghost use Rattle.ely_io.specs.Causes.{Rose};
-ghost use Rattle.ely_words.specs.declared.words.Mode.{Mode};
 ghost use Rattle.ely_front.specs.Moments.{at};
-ghost use Rattle.ely_front.specs.FirstLine.{given_by, conf, first_of, first_text, first_ending, IsBegun};
+ghost use Rattle.ely_base.specs.Refused.{Gives};
+ghost use Rattle.ely_domain.specs.Domains.{first_seen};
+ghost use Rattle.ely_front.specs.FirstLine.{given_by, conf, or_refused, first_of, first_text, first_ending, IsBegun};
 ghost use Rattle.ely_config_text.specs.Texts.{fault_text};
 ghost use Rattle.ely_front.specs.Ending.{EndsAs, Refuses};
 
 use crate::ending::{CONFIG_LIMIT_TEXT, Ending, close, stop};
-use ely_base::{NoMemory, Refused};
+use crate::mode::Mode;
+use ely_base::{NoMemory, Refused, refused_as};
 use ely_config::Config;
 use ely_config_text::{TextFault, push_fault, read_config};
-use ely_domain::JOURNAL_LIMIT;
+use ely_domain::{Domain, JOURNAL_LIMIT};
 use ely_io::{Line, LineReader, Sink, Source};
 use std::alloc::Global;
 use std::marker::Model;
@@ -21,12 +23,12 @@ use std::marker::Model;
 /// The most bytes of the first line.
 const CONFIG_LIMIT: usize = 1048576;
 
-/// What a first line gives: the configuration, and the most edits that the journal takes, with room for those with which it
-/// begins.
+/// What a first line gives: the configuration, and the most edits that the journal takes, with room for those
+/// with which it begins.
 #[derive(Drop)]
-pub(crate) struct Setup {
-    pub(crate) config: Config,
-    pub(crate) journal_limit: u32,
+pub struct Setup {
+    config: Config,
+    journal_limit: u32,
 }
 
 impl Model for Setup {
@@ -63,7 +65,8 @@ pub(crate) struct Begun {
 }
 
 impl Setup {
-    /// What a configuration gives in every mode. A journal of this limit has room for the edits with which it begins.
+    /// What a configuration gives in every mode. A journal of this limit has room for the edits with which it
+    /// begins.
     pub(crate) fn of(config: Config) -> Setup
         ensures { result ≡ given_by config }
     {
@@ -73,31 +76,41 @@ impl Setup {
             journal_limit: JOURNAL_LIMIT,
         }
     }
-}
 
-/// Reads the configuration, or says why the line is none.
-fn read_setup(alloc: Global, line: &[u8]) -> Result<Result<Setup, TextFault>, NoMemory>
-    ensures { IfOk result (λ read. read ≡ conf line.now) }
-{
-    match read_config(alloc, line) {
-        Ok(config) => Ok(Ok(Setup::of(config))),
-        Err(Refused::Fault(fault)) => Ok(Err(fault)),
-        Err(Refused::NoMemory) => Err(NoMemory),
+    /// A domain of this configuration, without logins.
+    pub fn domain(self, alloc: Global) -> Result<Domain, NoMemory>
+        ensures { IfOk result (λ domain. domain ≡ first_seen self) }
+    {
+        Domain::new(alloc, self.config, self.journal_limit)
     }
 }
 
-/// What a line is as the first one. An input without a line has the empty one.
-fn judge_first(alloc: Global, line: Line) -> Result<Result<Setup, FirstFault>, NoMemory>
-    ensures { IfOk result (λ judged. judged ≡ first_of line) }
+/// Reads the configuration, or says why the line is none.
+fn read_setup(alloc: Global, line: &[u8]) -> Result<Setup, Refused<TextFault>>
+    ensures { Gives result (conf line.now) }
 {
-    let read = match line {
-        Line::TooLong => return Ok(Err(FirstFault::Long)),
-        Line::End => read_setup(alloc, b"")?,
-        Line::Text(text) => read_setup(alloc, text.bytes())?,
-    };
-    match read {
-        Ok(setup) => Ok(Ok(setup)),
-        Err(fault) => Ok(Err(FirstFault::Config(fault))),
+    match read_config(alloc, line) {
+        Ok(config) => Ok(Setup::of(config)),
+        Err(Refused::Fault(fault)) => Err(Refused::Fault(fault)),
+        Err(Refused::NoMemory) => Err(Refused::NoMemory),
+    }
+}
+
+/// What a line is as the first one.
+fn judge_text(alloc: Global, line: &[u8]) -> Result<Setup, Refused<FirstFault>>
+    ensures { Gives result (or_refused (conf line.now)) }
+{
+    refused_as(read_setup(alloc, line), |fault| FirstFault::Config(fault))
+}
+
+/// The same where there may be no line, or one that is too long. An input without a line has the empty one.
+fn judge_first(alloc: Global, line: Line) -> Result<Setup, Refused<FirstFault>>
+    ensures { Gives result (first_of line) }
+{
+    match line {
+        Line::TooLong => Err(Refused::Fault(FirstFault::Long)),
+        Line::End => judge_text(alloc, b""),
+        Line::Text(text) => judge_text(alloc, text.bytes()),
     }
 }
 
@@ -127,9 +140,9 @@ fn refuse_first<K: Sink>(alloc: Global, sink: &mut K, fault: &FirstFault) -> End
     }
 }
 
-/// Reads the first line of the script that the source gives. Where it is no configuration that is written, and the
-/// answer is how the mode ends.
-pub(crate) fn read_first_line<S: Source, K: Sink>(
+/// Reads the first line of the script that the source gives. Where it is no configuration that is written,
+/// and the answer is how the mode ends.
+pub(crate) fn read_first_line<M: Mode, S: Source, K: Sink>(
     alloc: Global,
     source: &mut S,
     sink: &mut K,
@@ -137,7 +150,7 @@ pub(crate) fn read_first_line<S: Source, K: Sink>(
     ensures begun { IfOk result (λ begun.
         IsBegun (S.seen source.old) (S.seen source.new) begun.reader begun.setup) }
     ensures unwritten { OnOk result (sink.new ≡ sink.old) }
-    ensures ended { IfErr result (λ ending. (mode : Mode) (steps : ℕ) → EndsAs mode
+    ensures ended { IfErr result (λ ending. (steps : ℕ) → EndsAs M.told M.at_end
         (at (S.seen source.old) (K.seen sink.old) steps)
         (at (S.seen source.new) (K.seen sink.new) steps) ending) }
     ensures read { result ≡ Err Ending.Read
@@ -155,8 +168,8 @@ pub(crate) fn read_first_line<S: Source, K: Sink>(
         Err(refused) => return Err(stop(sink, b"", refused)),
     };
     match judge_first(alloc, line) {
-        Ok(Ok(setup)) => Ok(Begun { setup, reader }),
-        Ok(Err(fault)) => Err(refuse_first(alloc, sink, &fault)),
-        Err(_) => Err(Ending::NoMemory),
+        Ok(setup) => Ok(Begun { setup, reader }),
+        Err(Refused::Fault(fault)) => Err(refuse_first(alloc, sink, &fault)),
+        Err(Refused::NoMemory) => Err(Ending::NoMemory),
     }
 }

@@ -1,8 +1,8 @@
 ghost use Rattle.std.specs.Prelude.{◌≡◌, ◌<◌};
 
-use ely_front::run;
 use ely_hash::Steps;
 use ely_io::{MemSink, MemSource};
+use ely_run::run;
 use std::alloc::Global;
 use std::marker::Brand;
 use std::sync::ledger::{Blank, Ledger};

@@ -36,7 +36,8 @@ fn with_option<'a>(
     command.arg(Arg::new(alloc, name).long(name))
 }
 
-/// The command line of this program. It has no flags for help and version: `--help` and `--version` are unknown options.
+/// The command line of this program. It has no flags for help and version: `--help` and `--version` are
+/// unknown options.
 fn make_command<'a>(alloc: Global) -> Result<Command<'a>, AllocError>
     ensures { IfOk result (λ c. app_of c ≡ elydom) }
 {

@@ -1,17 +1,22 @@
-//! The program: the words of its command line, its standard input and its standard output, handed to the top call.
+//! The program: the words of its command line, its standard input and its standard output, handed to the top
+//! call.
 #![tactic(auto)]
 
 ghost use Rattle.std.specs.Prelude.{◌≡◌, ◌<◌};
 
-use ely_front::run;
 use ely_hash::Steps;
 use ely_io::{StdSink, StdSource};
+use ely_run::run;
 use std::marker::Brand;
 use std::process::ExitCode;
 use std::sync::ledger::{Blank, Ledger};
 use std::{env, io};
 
-/// The words of the command line, the program's own name first. Words that aren't UTF-8 are no command, and so no words.
+/// The exit status where the words are no command.
+const NO_COMMAND: u8 = 2;
+
+/// The words of the command line, the program's own name first. Words that aren't UTF-8 are no command, and
+/// so no words.
 fn words(rt: &HostRuntime) -> io::Result<Vec<String>> {
     let mut words = Vec::new(rt.alloc());
     let args = match env::args(rt) {
@@ -40,6 +45,17 @@ fn counted<L: Ledger>(rt: &HostRuntime, blank: Blank) -> u8
     run(rt.alloc(), &words, &mut source, &mut sink, &mut steps)
 }
 
+/// Says on standard error how the program is called. A failure of that is ignored.
+fn say_usage(rt: &HostRuntime) {
+    let _ = eprintln!(rt; "usage: elydom replay < SCRIPT");
+    let _ = eprintln!(rt; "       elydom check < SCRIPT");
+    let _ = eprintln!(rt; "The first line of SCRIPT is the configuration.");
+}
+
 fn main(rt: HostRuntime) -> ExitCode {
-    ExitCode::from(counted::<Brand>(&rt, Blank::new(1)))
+    let status = counted::<Brand>(&rt, Blank::new(1));
+    if status == NO_COMMAND {
+        say_usage(&rt);
+    }
+    ExitCode::from(status)
 }
