@@ -7,3 +7,6 @@ pub mod SoundLemmas
 pub mod FaultLemmas
 pub mod HeaderLemmas
 pub mod Rows
+pub mod Pieces
+pub mod CountBack
+pub mod HeaderBack

@@ -35,11 +35,11 @@ answer_or : {A : Type 0} → A → Result A DigestFault → A
 answer_or d (Ok x) = x
 answer_or d (Err e) = d
 
-same_answer : {A : Type 0} (x y : A) → IsSameAnswer (Ok x) (Ok y) → x ≡ y
+pub same_answer : {A : Type 0} (x y : A) → IsSameAnswer (Ok x) (Ok y) → x ≡ y
 unfolding answer_or
 same_answer x y h = ap (answer_or x) h
 
-if_ok : {A : Type 0} (b : Bool) (x y : A) (e : DigestFault) → cond b (Ok x) (Err e) ≡ Ok y → (b ≡ true) × (x ≡ y)
+pub if_ok : {A : Type 0} (b : Bool) (x y : A) (e : DigestFault) → cond b (Ok x) (Err e) ≡ Ok y → (b ≡ true) × (x ≡ y)
 if_ok true x y e h = (refl, same_answer x y h)
 if_ok false x y e h = absurd (no_answer e y h)
 

@@ -5,3 +5,4 @@ pub mod Headers
 pub mod Replies
 pub mod Challenges
 pub mod Grammar
+pub mod HeaderTexts

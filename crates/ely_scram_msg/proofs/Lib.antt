@@ -4,3 +4,4 @@ pub mod TextLemmas
 pub mod GrammarLemmas
 pub mod FirstGrammar
 pub mod LastGrammar
+pub mod WrittenLemmas

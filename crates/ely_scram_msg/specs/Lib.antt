@@ -8,3 +8,4 @@ pub mod ClientFirst
 pub mod ClientLast
 pub mod Grammar
 pub mod ServerTexts
+pub mod ClientTexts
